@@ -24,9 +24,6 @@ fn push_faces(
     from: u32,
     to: u32,
 ) -> Result<(), NoMemory>
-    requires rows { 3 ≤ grid.rows }
-    requires columns { 3 ≤ grid.columns }
-    requires few { grid.rows * grid.columns ≤ MAX_VERTICES }
     requires ordered { from ≤ to }
     requires faces { to ≤ 2 * (grid.rows * grid.columns) }
     requires numbers { length numbers.now ≡ grid.rows * grid.columns }
@@ -58,7 +55,6 @@ fn push_but_joint(
 ) -> Result<(), NoMemory>
     requires rows { 4 ≤ grid.rows }
     requires columns { 4 ≤ grid.columns }
-    requires few { grid.rows * grid.columns ≤ MAX_VERTICES }
     requires from { from ≤ 1 }
     requires numbers { length numbers.now ≡ grid.rows * grid.columns }
     requires inside { All (λ v. v < soup.old.vertices) numbers.now }

@@ -7,19 +7,20 @@ ghost use Rattle.surf_base.specs.declared.limits.TheConstants.{MAX_VERTICES};
 
 use surf_base::VertexId;
 
-/// A number of rows and of columns.
+/// A number of rows and of columns, enough to close into a torus and no more than a mesh has
+/// vertices for.
 #[derive(Clone, Copy)]
 pub struct Grid {
     pub rows: u32,
     pub columns: u32,
+    ghost tall: { 3 ≤ rows },
+    ghost wide: { 3 ≤ columns },
+    ghost few: { rows * columns ≤ MAX_VERTICES },
 }
 
 impl Grid {
     // The vertex in a row and a column, each taken modulo how many there are.
     fn vertex(self, row: u32, column: u32) -> VertexId
-        requires rows { 3 ≤ self.rows }
-        requires columns { 3 ≤ self.columns }
-        requires few { self.rows * self.columns ≤ MAX_VERTICES }
         ensures vertex { result ≡ grid_vertex self.rows self.columns row column }
     {
         VertexId::new(row % self.rows * self.columns + column % self.columns)
@@ -27,10 +28,7 @@ impl Grid {
 
     /// The first face of the cell of a number.
     pub fn first_face(self, cell: u32) -> [VertexId; 3]
-        requires rows { 3 ≤ self.rows }
-        requires columns { 3 ≤ self.columns }
-        requires few { self.rows * self.columns ≤ MAX_VERTICES }
-        requires cell { cell < self.rows * self.columns }
+        requires { cell < self.rows * self.columns }
         ensures corners { result ≡ first_face self.rows self.columns (cell / self.columns)
             (cell % self.columns) }
         ensures face { IsFace (self.rows * self.columns) result }
@@ -47,10 +45,7 @@ impl Grid {
 
     /// The second face of the cell of a number.
     pub fn second_face(self, cell: u32) -> [VertexId; 3]
-        requires rows { 3 ≤ self.rows }
-        requires columns { 3 ≤ self.columns }
-        requires few { self.rows * self.columns ≤ MAX_VERTICES }
-        requires cell { cell < self.rows * self.columns }
+        requires { cell < self.rows * self.columns }
         ensures corners { result ≡ second_face self.rows self.columns (cell / self.columns)
             (cell % self.columns) }
         ensures face { IsFace (self.rows * self.columns) result }
@@ -67,10 +62,7 @@ impl Grid {
 
     /// The face of a number: the cell of number `n` has the faces `2 * n` and `2 * n + 1`.
     pub fn face(self, f: u32) -> [VertexId; 3]
-        requires rows { 3 ≤ self.rows }
-        requires columns { 3 ≤ self.columns }
-        requires few { self.rows * self.columns ≤ MAX_VERTICES }
-        requires face { f < 2 * (self.rows * self.columns) }
+        requires { f < 2 * (self.rows * self.columns) }
         ensures corners { result ≡ face_at (torus self.rows self.columns) f }
         ensures face { IsFace (self.rows * self.columns) result }
     {

@@ -13,9 +13,6 @@ use surf_soup::Soup;
 
 // Adds the two faces of a cell.
 fn push_cell(soup: &mut Soup, grid: Grid, cell: u32) -> Result<(), NoMemory>
-    requires rows { 3 ≤ grid.rows }
-    requires columns { 3 ≤ grid.columns }
-    requires few_vertices { grid.rows * grid.columns ≤ MAX_VERTICES }
     requires cell { cell < grid.rows * grid.columns }
     requires vertices { soup.old.vertices ≡ grid.rows * grid.columns }
     requires few_sides { side_count soup.old + 6 < 2 ^ 30 }

@@ -11,9 +11,9 @@ use surf_text::{Page, PageFault, Piece, Slip};
 const FEW_CORNERS: usize = 5;
 
 fn write_corners<N: Numbered>(page: &mut Page, corners: &[N]) -> Result<(), PageFault>
-    requires fits { length page.old.bytes ≤ page.old.most }
     ensures puts { Puts page.old page.new (spaced_text (map N.number corners.now)) result }
 {
+    page.law_of_page();
     for c in corners {
         page.push_pieces(&[Piece::Bytes(b" "), Piece::Whole(c.number() as u128)])?;
     }
@@ -21,9 +21,9 @@ fn write_corners<N: Numbered>(page: &mut Page, corners: &[N]) -> Result<(), Page
 }
 
 fn write_colour(page: &mut Page, colour: &[u8]) -> Result<(), PageFault>
-    requires fits { length page.old.bytes ≤ page.old.most }
     ensures puts { Puts page.old page.new (colour_text colour.now) result }
 {
+    page.law_of_page();
     if colour.is_empty() {
         return Ok(());
     }

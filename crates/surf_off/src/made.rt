@@ -22,9 +22,9 @@ fn make_point(slip: &mut Slip, v: u32)
 }
 
 fn write_points(page: &mut Page, vertices: u32) -> Result<(), PageFault>
-    requires fits { length page.old.bytes ≤ page.old.most }
     ensures puts { Puts page.old page.new (lines_text (points (range_with_len 0 vertices))) result }
 {
+    page.law_of_page();
     let mut slip = Slip::new();
     for v in 0..vertices {
         make_point(&mut slip, v);
@@ -34,10 +34,10 @@ fn write_points(page: &mut Page, vertices: u32) -> Result<(), PageFault>
 }
 
 fn write_plain_faces(page: &mut Page, soup: &Soup) -> Result<(), PageFault>
-    requires fits { length page.old.bytes ≤ page.old.most }
     ensures puts { Puts page.old page.new (faces_text (zip soup.now.faces
         (no_colours soup.now.faces))) result }
 {
+    page.law_of_page();
     let mut slip = Slip::new();
     for f in 0..soup.faces() {
         write_face(page, &mut slip, soup.face(FaceId::new(f)), b"")?;

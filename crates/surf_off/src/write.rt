@@ -46,11 +46,11 @@ pub fn write_line(page: &mut Page, line: &[u8]) -> Result<(), PageFault>
 
 // The line of each copy's vertex.
 fn write_lines(page: &mut Page, text: &OffText<'_>, origins: &[VertexId]) -> Result<(), PageFault>
-    requires fits { length page.old.bytes ≤ page.old.most }
     requires within { All (λ v. v < length text.now.vertex_lines) origins.now }
     ensures puts { Puts page.old page.new (lines_text (lines_at text.now.vertex_lines origins.now))
         result }
 {
+    page.law_of_page();
     for v in origins {
         write_line(page, text.vertex_line(*v))?;
     }
@@ -74,12 +74,12 @@ fn write_faces(
     corners: &[CopyId],
     starts: &[u32],
 ) -> Result<(), PageFault>
-    requires fits { length page.old.bytes ≤ page.old.most }
     requires starts { AreStarts starts.now (length corners.now) }
     requires count { length starts.now ≡ length text.now.colours + 1 }
     ensures puts { Puts page.old page.new (faces_text (zip (rows_at starts.now corners.now)
         text.now.colours)) result }
 {
+    page.law_of_page();
     let mut slip = Slip::new();
     for f in 0..starts.len() - 1 {
         put_face(
@@ -106,10 +106,10 @@ fn make_comment(slip: &mut Slip, i: usize, origin: VertexId)
 
 // A comment for each copy.
 fn write_copies(page: &mut Page, origins: &[VertexId]) -> Result<(), PageFault>
-    requires fits { length page.old.bytes ≤ page.old.most }
     ensures puts { Puts page.old page.new (copies_text origins.now
         (range_with_len 0 (length origins.now))) result }
 {
+    page.law_of_page();
     let mut slip = Slip::new();
     for i in 0..origins.len() {
         make_comment(&mut slip, i, origins[i]);

@@ -1,15 +1,14 @@
 -- Sides that no round has marked, and the pinches that they show.
-use Rattle.surf_surfaces.proofs.Common.{◌≡◌, ◌≢◌, ℕ, ◌+◌, ◌<◌, ◌≤◌, ◌⊎◌, Bool, true, false, List, [], Option, None, Some, MatchOption, length, get_or, refl, sym, ap, subst, ◌∙◌, arith, inl, inr, true≢false, cases_eq, cases_Bool, get_or_default, Mesh, IsMesh, HasOneFan, side_count, owners}
-use Rattle.surf_soup.specs.Vertices.{all_corners, sides_at, AllMet}
+use Rattle.surf_surfaces.proofs.Common.{◌≡◌, ◌≢◌, ℕ, ◌+◌, ◌<◌, ◌≤◌, ◌⊎◌, Bool, true, false, List, Option, None, Some, MatchOption, length, get_or, refl, sym, ap, subst, ◌∙◌, arith, inl, inr, true≢false, cases_eq, cases_Bool, Mesh, IsMesh, HasOneFan, side_count, owners}
+use Rattle.surf_soup.specs.Vertices.{all_corners, sides_at}
 use Rattle.surf_soup.specs.Reach.{marked}
-use Rattle.surf_soup.specs.Ring.{AreDartTables, BeginsAt, IsPinch, IsLeastPinch, AreMarkedFans}
+use Rattle.surf_soup.specs.Ring.{BeginsAt, IsPinch, IsLeastPinch, AreMarkedFans}
 use Rattle.surf_soup.specs.First.{AreFirstSides, IsFirstLeft}
 use Rattle.surf_soup.specs.declared.rings.Pinch.{Pinch}
-use Rattle.surf_soup.proofs.Owners.{length-owners}
 use Rattle.surf_soup.proofs.VertexLaws.{corners_len, corners_below}
 use Rattle.surf_soup.proofs.CornerSides.{begins_at}
 use Rattle.surf_soup.proofs.FirstLaws.{first_at}
-use Rattle.surf_soup.proofs.RingMarks.{first_side_at, all_fans}
+use Rattle.surf_soup.proofs.RingMarks.{all_fans}
 
 -- the least vertex of the first sides that aren't marked, and the least such side there; none yet where it is the bound
 pub record IsLeftUpto (corners : List ℕ) (seen : List Bool) (upto none v s : ℕ) : Type 0 where
@@ -114,24 +113,12 @@ left_pinch mesh seen first v s is_mesh are firsts left =
           left.none_lower t (omega arith) (omega arith));
     }
 
--- a face as it is read from the table
-pub owner_read : (mesh : Mesh) (face_of : List ℕ) → face_of ≡ owners 0 mesh.faces → (s t d : ℕ) → s ≡ t →
-    t < side_count mesh → get_or face_of s d ≡ get_or (owners 0 mesh.faces) t 0
-owner_read mesh face_of are s t d is lt =
-    let n = length-owners 0 mesh.faces in
-    get_or_default face_of s d 0 (omega (arith, n, ap length are, is, lt)) ∙ ap (λ (xs : List ℕ). get_or xs s 0) are
-    ∙ ap (λ u. get_or (owners 0 mesh.faces) u 0) is
-
-pub read_pinch : (mesh : Mesh) (face_of mate : List ℕ) (tables : AreDartTables mesh face_of mate)
-    (seen : List Bool) (first : List ℕ) → AreMarkedFans mesh seen mesh.vertices → AreFirstSides mesh first →
-    AllMet mesh → (v s home last d e : ℕ) → IsFirstLeft (all_corners mesh) seen v s → home ≡ get_or first v 0 →
-    last ≡ s → IsLeastPinch mesh v (get_or face_of home d) (get_or face_of last e)
-read_pinch mesh face_of mate tables seen first are firsts met v s home last d e left home_is last_is =
-    let pinch = left_pinch mesh seen first v s tables.is_mesh are firsts left in
-    let begin = first_side_at mesh face_of mate [] tables first v firsts met pinch.is_vertex in
-    let n = corners_len mesh in
-    let lt : s < side_count mesh = let is = left.is_side in omega arith in
-    let F : ℕ → Type 0 = λ f. IsLeastPinch mesh v f (get_or (owners 0 mesh.faces) s 0) in
-    let G : ℕ → Type 0 = λ g. IsLeastPinch mesh v (get_or face_of home d) g in
-    subst G (sym (owner_read mesh face_of tables.faces last s e last_is lt))
-    (subst F (sym (owner_read mesh face_of tables.faces home (get_or first v 0) d home_is begin.0)) pinch)
+-- and its vertex has a home
+pub read_pinch : (mesh : Mesh) (seen : List Bool) (first : List ℕ) (v s home : ℕ) →
+    IsMesh mesh → AreMarkedFans mesh seen mesh.vertices → AreFirstSides mesh first →
+    IsFirstLeft (all_corners mesh) seen v s → home ≡ get_or first v 0 →
+    IsLeastPinch mesh v (get_or (owners 0 mesh.faces) home 0) (get_or (owners 0 mesh.faces) s 0)
+read_pinch mesh seen first v s home is_mesh are firsts left is =
+    let P : ℕ → Type 0 =
+    λ h. IsLeastPinch mesh v (get_or (owners 0 mesh.faces) h 0) (get_or (owners 0 mesh.faces) s 0) in
+    subst P (sym is) (left_pinch mesh seen first v s is_mesh are firsts left)

@@ -72,7 +72,7 @@ pub record AreRingsListed (mesh : Mesh) (seen : List Bool) (v : ℕ) (sides edge
   pub rings : AreMarkedRings mesh seen v (cut 0 ends sides) (cut 0 ends edges)
   pub counted : length sides + unmarked seen ≡ side_count mesh
 
-module _ (mesh : Mesh) (face_of mate edge_of : List ℕ) (tables : AreDartTables mesh face_of mate) where
+module _ (mesh : Mesh) (mate edge_of : List ℕ) (tables : AreDartTables mesh mate) where
   module _ (v home : ℕ) (some : 0 < length (sides_at mesh v)) (is : home ≡ get_or (sides_at mesh v) 0 0)
       (old now : List Bool) (ring : List ℕ) (fresh : (s : ℕ) → BeginsAt mesh v s → marked old s ≡ false)
       (round : IsRound (nexts mesh) (befores mesh) mate (all_corners mesh) (dart_before mesh home) old now ring)

@@ -29,7 +29,7 @@ pub record IsListedUpto (mesh : Mesh) (mate edge_of : List ℕ) (home : ℕ) (se
   pub trail : IsTrail (nexts mesh) (befores mesh) mate (all_corners mesh) edge_of (dart_before mesh home) (length ring)
       between
 
-module _ (mesh : Mesh) (face_of mate edge_of : List ℕ) (tables : AreDartTables mesh face_of mate) where
+module _ (mesh : Mesh) (mate edge_of : List ℕ) (tables : AreDartTables mesh mate) where
   pub darts : AreDarts (nexts mesh) (befores mesh) mate (all_corners mesh)
   darts = are_darts mesh tables.is_mesh tables.two mate tables.mates (nexts mesh) (befores mesh) (turned_is after mesh)
       (turned_is before mesh)

@@ -1,5 +1,5 @@
 -- The sides before and after each side of a face, and darts turned by tables.
-use Rattle.surf_surfaces.proofs.Common.{◌≡◌, ◌≢◌, ℕ, ◌+◌, ◌-◌, ◌<◌, ◌≤◌, Bool, not, cond, eqb, true, false, List, length, get_or, inl, inr, refl, sym, ap, subst, ◌∙◌, arith, sum_by, true≢false, lt-ltb, le-ltb, ne_eqb, eq-eqb, cases_eq, get_or_read, length-map-range_with_len, get_or-map-range_with_len, Mesh, after, before, face_count, face_at, side_count, owners, first_side, IsFaceOf}
+use Rattle.surf_surfaces.proofs.Common.{◌≡◌, ◌≢◌, ℕ, ◌+◌, ◌-◌, ◌<◌, ◌≤◌, Bool, not, cond, eqb, true, false, List, length, get_or, inl, inr, refl, sym, ap, ◌∙◌, arith, sum_by, true≢false, lt-ltb, le-ltb, ne_eqb, eq-eqb, cases_eq, get_or_read, length-map-range_with_len, get_or-map-range_with_len, Mesh, after, before, face_count, face_at, side_count, owners, first_side, IsFaceOf}
 use Rattle.std.proofs.Math.Bool.{beq}
 use Rattle.std.proofs.Math.Seq.{take-length}
 use Rattle.surf_soup.specs.Ring.{turned, nexts, befores, flip_of, turn_of, AreDartTables, AreTurned}
@@ -71,14 +71,8 @@ turned_is turn mesh = record {
       ∙ ap (λ j. first_side mesh f + turn (length (face_at mesh f)) j) e;
 }
 
--- the face that is read at a side
-pub face_read : {mesh : Mesh} {face_of mate : List ℕ} {s f : ℕ} → AreDartTables mesh face_of mate →
-    s < side_count mesh → f ≡ get_or face_of s 0 → IsFaceOf mesh s f
-face_read {mesh} {face_of} {s = s} tables lt is =
-    subst (IsFaceOf mesh s) (sym is) (face_of_side mesh face_of s 0 tables.faces lt)
-
 -- the mate that is read at a side
-pub mate_read : {mesh : Mesh} {face_of mate : List ℕ} {s at x : ℕ} → AreDartTables mesh face_of mate →
+pub mate_read : {mesh : Mesh} {mate : List ℕ} {s at x : ℕ} → AreDartTables mesh mate →
     s < side_count mesh → at ≡ s → x ≡ get_or mate at x →
     (get_or mate at x ≡ get_or mate s 0) × (get_or mate at x < side_count mesh)
 mate_read {mesh} {mate = mate} {s} {at} {x} tables lt is read =

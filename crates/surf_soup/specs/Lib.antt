@@ -8,6 +8,7 @@ pub mod Forest
 pub mod Apart
 pub mod Ring
 pub mod First
+pub mod Darts
 pub mod Kept
 pub mod FaceTables
 pub mod Pairing

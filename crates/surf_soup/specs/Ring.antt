@@ -81,12 +81,11 @@ nexts mesh = turned after mesh
 abbrev pub befores : Mesh → List ℕ
 befores mesh = turned before mesh
 
--- tables of a soup whose edges have two faces each: for each side its face and its mate
-pub record AreDartTables (mesh : Mesh) (face_of mate : List ℕ) : Type 0 where
+-- a soup whose edges have two faces each, with the mate of each side
+pub record AreDartTables (mesh : Mesh) (mate : List ℕ) : Type 0 where
   pub is_mesh : IsMesh mesh
   pub few : side_count mesh < 2 ^ 30
   pub two : HasTwoFaces mesh
-  pub faces : face_of ≡ owners 0 mesh.faces
   pub mates : AreAllMates mesh mate
 
 -- the dart at the head of the side before a side

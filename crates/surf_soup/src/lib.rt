@@ -32,6 +32,7 @@
 #![tactic(auto)]
 
 mod apart;
+mod darts;
 mod entries;
 mod forest;
 mod mated;

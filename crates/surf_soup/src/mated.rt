@@ -3,17 +3,15 @@ ghost use Rattle.std.specs.Prelude.{◌≡◌, ◌<◌, ◌+◌, ◌↔◌, leng
 ghost use Rattle.std.specs.List.{sum_by};
 ghost use Rattle.surf_surfaces.specs.Surface.{face_count};
 ghost use Rattle.surf_soup.specs.Half.{AreAllMates};
-ghost use Rattle.surf_soup.specs.Order.{AreSideEntries};
 ghost use Rattle.surf_soup.specs.Pairs.{HasTwoFaces, IsPairFault};
 ghost use Rattle.surf_soup.specs.Pairing.{AreMated, AreGreaterEnds};
 ghost use Rattle.surf_surfaces.specs.Mesh.{edges};
 
 use crate::Soup;
-use crate::entries::side_entries;
+use crate::entries::{SideEntries, side_entries};
 use crate::pairs::{PairFault, find_fault};
 use std::alloc::Global;
 use surf_base::{NoMemory, SideId, VertexId};
-use surf_rows::Rows;
 
 /// The mate of each side, and whether each vertex is the greater end of an edge.
 #[derive(Drop)]
@@ -70,16 +68,16 @@ fn join_mates(mates: &mut Mates, ends: (VertexId, VertexId), first: SideId, seco
 }
 
 // Joins the sides with a lesser end, if they come in pairs.
-fn mate_row(soup: &Soup, entries: &Rows<(VertexId, SideId)>, vertex: u32, mates: &mut Mates) -> bool
-    requires entries { AreSideEntries soup.now entries.now }
-    requires vertex { vertex < soup.now.vertices }
-    requires so_far { AreMated soup.now (sum_by length (take vertex entries.now)) mates.old }
-    ensures { MatchBool result (AreMated soup.now (sum_by length
-        (take (vertex + 1) entries.now)) mates.new) (HasTwoFaces soup.now → ⊥) }
+fn mate_row(entries: &SideEntries<'_>, vertex: u32, mates: &mut Mates) -> bool
+    requires vertex { vertex < entries.now.mesh.vertices }
+    requires so_far { AreMated entries.now.mesh (sum_by length (take vertex entries.now.rows))
+        mates.old }
+    ensures { MatchBool result (AreMated entries.now.mesh (sum_by length
+        (take (vertex + 1) entries.now.rows)) mates.new) (HasTwoFaces entries.now.mesh → ⊥) }
 {
-    soup.law_of_soup();
+    entries.law_of_entries();
     let low = VertexId::new(vertex);
-    let row = entries.row(vertex as usize);
+    let row = entries.row(vertex);
     for k in 0..row.len() / 2 {
         let (high, first) = row[2 * k];
         let (other, second) = row[2 * k + 1];
@@ -92,14 +90,14 @@ fn mate_row(soup: &Soup, entries: &Rows<(VertexId, SideId)>, vertex: u32, mates:
 }
 
 // Joins all sides, if they come in pairs.
-fn mate_rows(soup: &Soup, entries: &Rows<(VertexId, SideId)>, mates: &mut Mates) -> bool
-    requires entries { AreSideEntries soup.now entries.now }
-    requires none { AreMated soup.now 0 mates.old }
-    ensures { MatchBool result (AreMated soup.now (sum_by length entries.now) mates.new)
-        (HasTwoFaces soup.now → ⊥) }
+fn mate_rows(entries: &SideEntries<'_>, mates: &mut Mates) -> bool
+    requires { AreMated entries.now.mesh 0 mates.old }
+    ensures { MatchBool result (AreMated entries.now.mesh (sum_by length entries.now.rows) mates.new)
+        (HasTwoFaces entries.now.mesh → ⊥) }
 {
-    for v in 0..soup.vertices() {
-        if !mate_row(soup, entries, v, mates) {
+    entries.law_of_entries();
+    for v in 0..entries.vertices() {
+        if !mate_row(entries, v, mates) {
             return false;
         }
     }
@@ -114,8 +112,9 @@ fn soup_mates(alloc: Global, soup: &Soup) -> Result<Option<MatedSides>, NoMemory
 {
     soup.law_of_soup();
     let entries = side_entries(alloc, soup)?;
+    entries.law_of_entries();
     let mut mates = no_mates(alloc, soup.side_count() as usize, soup.vertices() as usize)?;
-    if mate_rows(soup, &entries, &mut mates) {
+    if mate_rows(&entries, &mut mates) {
         let Mates { mate, greater, .. } = mates;
         Ok(Some(MatedSides { mate, greater }))
     } else {

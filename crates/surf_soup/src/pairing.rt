@@ -1,17 +1,15 @@
 //! Sides in pairs, read off the sorted rows.
 ghost use Rattle.std.specs.Prelude.{◌≡◌, ◌<◌, ◌+◌, ◌^◌, ◌∷◌, ◌++◌, [], length, take, slice_set, OnOk, IfOk, MatchBool, MatchOption};
 ghost use Rattle.std.specs.List.{sum_by};
-ghost use Rattle.surf_soup.specs.Order.{AreSideEntries};
 ghost use Rattle.surf_soup.specs.Pairs.{HasTwoFaces};
 ghost use Rattle.surf_soup.specs.Pairing.{IsPairingOf, ArePaired, AreNoPairs, HasAllPairs};
 
 use crate::Soup;
-use crate::entries::side_entries;
+use crate::entries::{SideEntries, side_entries};
 use crate::side_faces::SideFaces;
 use crate::tables::is_last;
 use std::alloc::Global;
 use surf_base::{EdgeId, NoMemory, SideId, VertexId};
-use surf_rows::Rows;
 
 /// The edges of a soup that are sides of exactly two faces each, and for each of them the lesser of
 /// its two sides; the mate, the edge and the face of each side.
@@ -75,21 +73,16 @@ fn join_sides(
 }
 
 // Pairs the sides with a lesser end, if they come in pairs.
-fn pair_row(
-    soup: &Soup,
-    entries: &Rows<(VertexId, SideId)>,
-    vertex: u32,
-    pairs: &mut Pairs,
-) -> Result<bool, NoMemory>
-    requires entries { AreSideEntries soup.now entries.now }
-    requires vertex { vertex < soup.now.vertices }
-    requires so_far { ArePaired soup.now (sum_by length (take vertex entries.now)) pairs.old }
-    ensures { IfOk result (λ paired. MatchBool paired (ArePaired soup.now (sum_by length
-        (take (vertex + 1) entries.now)) pairs.new) (HasTwoFaces soup.now → ⊥)) }
+fn pair_row(entries: &SideEntries<'_>, vertex: u32, pairs: &mut Pairs) -> Result<bool, NoMemory>
+    requires vertex { vertex < entries.now.mesh.vertices }
+    requires so_far { ArePaired entries.now.mesh (sum_by length (take vertex entries.now.rows))
+        pairs.old }
+    ensures { IfOk result (λ paired. MatchBool paired (ArePaired entries.now.mesh (sum_by length
+        (take (vertex + 1) entries.now.rows)) pairs.new) (HasTwoFaces entries.now.mesh → ⊥)) }
 {
-    soup.law_of_soup();
+    entries.law_of_entries();
     let low = VertexId::new(vertex);
-    let row = entries.row(vertex as usize);
+    let row = entries.row(vertex);
     for k in 0..row.len() / 2 {
         let (high, first) = row[2 * k];
         let (other, second) = row[2 * k + 1];
@@ -102,18 +95,14 @@ fn pair_row(
 }
 
 // Pairs all sides, if they come in pairs.
-fn pair_rows(
-    soup: &Soup,
-    entries: &Rows<(VertexId, SideId)>,
-    pairs: &mut Pairs,
-) -> Result<bool, NoMemory>
-    requires entries { AreSideEntries soup.now entries.now }
-    requires none { ArePaired soup.now 0 pairs.old }
-    ensures { IfOk result (λ paired. MatchBool paired (ArePaired soup.now (sum_by length
-        entries.now) pairs.new) (HasTwoFaces soup.now → ⊥)) }
+fn pair_rows(entries: &SideEntries<'_>, pairs: &mut Pairs) -> Result<bool, NoMemory>
+    requires { ArePaired entries.now.mesh 0 pairs.old }
+    ensures { IfOk result (λ paired. MatchBool paired (ArePaired entries.now.mesh (sum_by length
+        entries.now.rows) pairs.new) (HasTwoFaces entries.now.mesh → ⊥)) }
 {
-    for v in 0..soup.vertices() {
-        if !pair_row(soup, entries, v, pairs)? {
+    entries.law_of_entries();
+    for v in 0..entries.vertices() {
+        if !pair_row(entries, v, pairs)? {
             return Ok(false);
         }
     }
@@ -127,8 +116,9 @@ fn soup_pairs(alloc: Global, soup: &Soup) -> Result<Option<Pairs>, NoMemory>
 {
     soup.law_of_soup();
     let entries = side_entries(alloc, soup)?;
+    entries.law_of_entries();
     let mut pairs = no_pairs(alloc, soup.side_count() as usize)?;
-    if pair_rows(soup, &entries, &mut pairs)? {
+    if pair_rows(&entries, &mut pairs)? {
         Ok(Some(pairs))
     } else {
         Ok(None)

@@ -9,12 +9,12 @@ ghost use Rattle.surf_soup.specs.Half.{AreAllMates};
 ghost use Rattle.surf_soup.specs.Pairing.{IsPairingOf};
 ghost use Rattle.surf_soup.specs.Pairs.{HasTwoFaces};
 ghost use Rattle.surf_soup.specs.Vertices.{all_corners, AllMet};
-ghost use Rattle.surf_soup.specs.Ring.{dart_corner, turn_of, nexts, befores, AreDartTables, IsRoundMarked};
-ghost use Rattle.surf_soup.specs.Ring.{IsRoundListed, BeginsAt, AreMarkedFans, AreMarkedRings};
+ghost use Rattle.surf_soup.specs.Ring.{IsRoundMarked, IsRoundListed, BeginsAt, AreMarkedFans, AreMarkedRings};
 ghost use Rattle.surf_soup.specs.Ring.{IsLeastPinch, AreRings};
 ghost use Rattle.surf_soup.specs.First.{AreFirstSides, IsFirstLeft};
 
 use crate::Soup;
+use crate::darts::Darts;
 use crate::pairing::Pairing;
 use crate::side_faces::SideFaces;
 use std::alloc::Global;
@@ -42,96 +42,21 @@ pub struct Pinch {
     pub second: FaceId,
 }
 
-// The soup with the face and the mate of each side.
-#[derive(Drop)]
-struct Darts<'t> {
-    soup: &'t Soup,
-    face_of: &'t SideFaces,
-    mate: &'t [SideId],
-}
-
-// The darts of a soup whose sides have mates.
-fn darts_of<'t>(soup: &'t Soup, mate: &'t [SideId], face_of: &'t SideFaces) -> Darts<'t>
-    requires two { HasTwoFaces soup.now }
-    requires mates { AreAllMates soup.now mate.now }
-    requires faces { face_of.now ≡ owners 0 soup.now.faces }
-    ensures soup { result.soup.now ≡ soup.now }
-    ensures tables { AreDartTables soup.now result.face_of.now result.mate.now }
-{
-    soup.law_of_soup();
-    Darts {
-        soup,
-        face_of,
-        mate,
-    }
-}
-
-// The next side of a side, around its face.
-fn next_side(darts: &Darts<'_>, side: SideId) -> SideId
-    requires darts { AreDartTables darts.now.soup.now darts.now.face_of.now darts.now.mate.now }
-    requires side { side < side_count darts.now.soup.now }
-    ensures { result ≡ slice_index (nexts darts.now.soup.now) side }
-{
-    let (start, end) = darts.soup.span(darts.face_of.at(side));
-    let next = side.number() + 1;
-    if next < end {
-        SideId::new(next)
-    } else {
-        SideId::new(start)
-    }
-}
-
-// The side before a side, around its face.
-fn side_before(darts: &Darts<'_>, side: SideId) -> SideId
-    requires darts { AreDartTables darts.now.soup.now darts.now.face_of.now darts.now.mate.now }
-    requires side { side < side_count darts.now.soup.now }
-    ensures { result ≡ slice_index (befores darts.now.soup.now) side }
-{
-    let (start, end) = darts.soup.span(darts.face_of.at(side));
-    let number = side.number();
-    if number == start {
-        SideId::new(end - 1)
-    } else {
-        SideId::new(number - 1)
-    }
-}
-
-// Turns a dart to the next one at its vertex, and gives the corner at which that one stands.
-fn turn_dart(darts: &Darts<'_>, side: SideId, head: bool) -> (SideId, bool, SideId)
-    requires darts { AreDartTables darts.now.soup.now darts.now.face_of.now darts.now.mate.now }
-    requires side { side < side_count darts.now.soup.now }
-    ensures dart { (result.0, result.1) ≡ turn_of (nexts darts.now.soup.now)
-        (befores darts.now.soup.now) darts.now.mate.now (all_corners darts.now.soup.now)
-        (side, head) }
-    ensures corner { result.2 ≡ dart_corner (nexts darts.now.soup.now) (result.0, result.1) }
-{
-    let tails = darts.soup.corners();
-    let across = darts.mate[side.index()];
-    let same = tails[across.index()] == tails[side.index()];
-    if same == head {
-        let corner = next_side(darts, across);
-        (corner, false, corner)
-    } else {
-        let before = side_before(darts, across);
-        (before, true, across)
-    }
-}
-
 // Goes round a vertex from one of its sides, and marks the sides that it meets.
 fn mark_round(darts: &Darts<'_>, home: SideId, seen: &mut [bool])
-    requires darts { AreDartTables darts.now.soup.now darts.now.face_of.now darts.now.mate.now }
-    requires home { home < side_count darts.now.soup.now }
-    requires size { length seen.old ≡ side_count darts.now.soup.now }
-    requires fresh { (s : ℕ) → BeginsAt darts.now.soup.now
-        (slice_index (all_corners darts.now.soup.now) home) s → marked seen.old s ≡ false }
-    ensures { IsRoundMarked darts.now.soup.now darts.now.mate.now home seen.old seen.new }
+    requires home { home < side_count darts.now.mesh }
+    requires size { length seen.old ≡ side_count darts.now.mesh }
+    requires fresh { (s : ℕ) → BeginsAt darts.now.mesh
+        (slice_index (all_corners darts.now.mesh) home) s → marked seen.old s ≡ false }
+    ensures { IsRoundMarked darts.now.mesh darts.now.mate home seen.old seen.new }
 {
-    let mut side = side_before(darts, home);
+    darts.law_of_darts();
+    let mut side = darts.side_before(home);
     let mut head = true;
     let mut at = home;
     while !seen[at.index()] {
         seen[at.index()] = true;
-        (side, head, at) = turn_dart(darts, side, head);
+        (side, head, at) = darts.turn_dart(side, head);
     }
 }
 
@@ -144,24 +69,24 @@ fn go_round(
     sides: &mut Vec<SideId>,
     edges: &mut Vec<EdgeId>,
 ) -> Result<(), NoMemory>
-    requires darts { AreDartTables darts.now.soup.now darts.now.face_of.now darts.now.mate.now }
-    requires numbers { AreEdgeNumbers darts.now.soup.now edge_of.now }
-    requires home { home < side_count darts.now.soup.now }
-    requires size { length seen.old ≡ side_count darts.now.soup.now }
-    requires fresh { (s : ℕ) → BeginsAt darts.now.soup.now
-        (slice_index (all_corners darts.now.soup.now) home) s → marked seen.old s ≡ false }
-    ensures { OnOk result (IsRoundListed darts.now.soup.now darts.now.mate.now
+    requires numbers { AreEdgeNumbers darts.now.mesh edge_of.now }
+    requires home { home < side_count darts.now.mesh }
+    requires size { length seen.old ≡ side_count darts.now.mesh }
+    requires fresh { (s : ℕ) → BeginsAt darts.now.mesh
+        (slice_index (all_corners darts.now.mesh) home) s → marked seen.old s ≡ false }
+    ensures { OnOk result (IsRoundListed darts.now.mesh darts.now.mate
         edge_of.now home seen.old seen.new
         sides.old.items sides.new.items edges.old.items edges.new.items) }
 {
-    let mut side = side_before(darts, home);
+    darts.law_of_darts();
+    let mut side = darts.side_before(home);
     let mut head = true;
     let mut corner = home;
     while !seen[corner.index()] {
         seen[corner.index()] = true;
         sides.push(corner)?;
         edges.push(edge_of[side.index()])?;
-        (side, head, corner) = turn_dart(darts, side, head);
+        (side, head, corner) = darts.turn_dart(side, head);
     }
     Ok(())
 }
@@ -183,13 +108,12 @@ pub fn first_left(row: &[SideId], seen: &[bool]) -> Option<usize>
 }
 
 // Goes round each vertex in turn, from the first of its sides, and marks the sides that are met.
-fn mark_rounds(darts: &Darts<'_>, first: &[SideId], seen: &mut [bool])
-    requires darts { AreDartTables darts.now.soup.now darts.now.face_of.now darts.now.mate.now }
-    requires first { AreFirstSides darts.now.soup.now first.now }
-    requires met { AllMet darts.now.soup.now }
-    requires fresh { seen.old ≡ replicate (side_count darts.now.soup.now) false }
-    ensures { AreMarkedFans darts.now.soup.now seen.new darts.now.soup.now.vertices }
+fn mark_rounds(darts: &Darts<'_>, seen: &mut [bool])
+    requires fresh { seen.old ≡ replicate (side_count darts.now.mesh) false }
+    ensures { AreMarkedFans darts.now.mesh seen.new darts.now.mesh.vertices }
 {
+    darts.law_of_darts();
+    let first = darts.firsts();
     for home in first {
         mark_round(darts, *home, seen);
     }
@@ -200,20 +124,18 @@ fn go_rings(
     alloc: Global,
     darts: &Darts<'_>,
     edge_of: &[EdgeId],
-    first: &[SideId],
     seen: &mut [bool],
 ) -> Result<PairedRows<SideId, EdgeId>, NoMemory>
-    requires darts { AreDartTables darts.now.soup.now darts.now.face_of.now darts.now.mate.now }
-    requires numbers { AreEdgeNumbers darts.now.soup.now edge_of.now }
-    requires first { AreFirstSides darts.now.soup.now first.now }
-    requires met { AllMet darts.now.soup.now }
-    requires fresh { seen.old ≡ replicate (side_count darts.now.soup.now) false }
-    ensures fans { OnOk result (AreMarkedFans darts.now.soup.now seen.new
-        darts.now.soup.now.vertices) }
-    ensures rings { IfOk result (λ t. AreMarkedRings darts.now.soup.now seen.new
-        darts.now.soup.now.vertices t.0 t.1) }
+    requires numbers { AreEdgeNumbers darts.now.mesh edge_of.now }
+    requires fresh { seen.old ≡ replicate (side_count darts.now.mesh) false }
+    ensures fans { OnOk result (AreMarkedFans darts.now.mesh seen.new
+        darts.now.mesh.vertices) }
+    ensures rings { IfOk result (λ t. AreMarkedRings darts.now.mesh seen.new
+        darts.now.mesh.vertices t.0 t.1) }
 {
-    let room = darts.mate.len();
+    darts.law_of_darts();
+    let first = darts.firsts();
+    let room = darts.tails().len();
     let mut sides = Vec::with_capacity(alloc, room)?;
     let mut edges = Vec::with_capacity(alloc, room)?;
     let mut ends = Vec::with_capacity(alloc, first.len())?;
@@ -225,14 +147,15 @@ fn go_rings(
 }
 
 // The least vertex with a side that isn't marked, and the least such side there.
-fn least_left(soup: &Soup, seen: &[bool]) -> Option<(VertexId, SideId)>
-    requires { length seen.now ≡ side_count soup.now }
-    ensures { MatchOption result ((s : ℕ) → s < side_count soup.now → marked seen.now s ≡ true)
-        (λ p. IsFirstLeft (all_corners soup.now) seen.now p.0 p.1) }
+fn least_left(darts: &Darts<'_>, seen: &[bool]) -> Option<(VertexId, SideId)>
+    requires { length seen.now ≡ side_count darts.now.mesh }
+    ensures { MatchOption result ((s : ℕ) → s < side_count darts.now.mesh →
+        marked seen.now s ≡ true)
+        (λ p. IsFirstLeft (all_corners darts.now.mesh) seen.now p.0 p.1) }
 {
-    soup.law_of_soup();
-    let corners = soup.corners();
-    let none = VertexId::new(soup.vertices());
+    darts.law_of_darts();
+    let corners = darts.tails();
+    let none = VertexId::new(darts.vertices());
     let mut least = none;
     let mut side = SideId::new(0);
     for s in 0..corners.len() {
@@ -248,40 +171,36 @@ fn least_left(soup: &Soup, seen: &[bool]) -> Option<(VertexId, SideId)>
 }
 
 // The pinch at the least vertex with a side that no round met.
-fn pinch_left(darts: &Darts<'_>, first: &[SideId], seen: &[bool]) -> Option<Pinch>
-    requires darts { AreDartTables darts.now.soup.now darts.now.face_of.now darts.now.mate.now }
-    requires first { AreFirstSides darts.now.soup.now first.now }
-    requires met { AllMet darts.now.soup.now }
-    requires size { length seen.now ≡ side_count darts.now.soup.now }
-    requires fans { AreMarkedFans darts.now.soup.now seen.now darts.now.soup.now.vertices }
-    ensures { MatchOption result ((s : ℕ) → s < side_count darts.now.soup.now →
-        marked seen.now s ≡ true) (λ p. IsLeastPinch darts.now.soup.now p.v p.first p.second) }
+fn pinch_left(darts: &Darts<'_>, seen: &[bool]) -> Option<Pinch>
+    requires size { length seen.now ≡ side_count darts.now.mesh }
+    requires fans { AreMarkedFans darts.now.mesh seen.now darts.now.mesh.vertices }
+    ensures { MatchOption result ((s : ℕ) → s < side_count darts.now.mesh →
+        marked seen.now s ≡ true) (λ p. IsLeastPinch darts.now.mesh p.v p.first p.second) }
 {
-    match least_left(darts.soup, seen) {
+    darts.law_of_darts();
+    let first = darts.firsts();
+    match least_left(darts, seen) {
         None => None,
         Some((v, left)) => {
             let home = first[v.index()];
             Some(Pinch {
                 v,
-                first: darts.face_of.at(home),
-                second: darts.face_of.at(left),
+                first: darts.face_at(home),
+                second: darts.face_at(left),
             })
         }
     }
 }
 
 // The pinch at the least vertex that has one, by marks of the sides that rounds meet.
-fn pinch_by(darts: &Darts<'_>, first: &[SideId], seen: &mut [bool]) -> Option<Pinch>
-    requires darts { AreDartTables darts.now.soup.now darts.now.face_of.now darts.now.mate.now }
-    requires first { AreFirstSides darts.now.soup.now first.now }
-    requires met { AllMet darts.now.soup.now }
-    requires fresh { seen.old ≡ replicate (side_count darts.now.soup.now) false }
-    ensures { MatchOption result ((v : ℕ) → v < darts.now.soup.now.vertices →
-        HasOneFan darts.now.soup.now v)
-        (λ p. IsLeastPinch darts.now.soup.now p.v p.first p.second) }
+fn pinch_by(darts: &Darts<'_>, seen: &mut [bool]) -> Option<Pinch>
+    requires fresh { seen.old ≡ replicate (side_count darts.now.mesh) false }
+    ensures { MatchOption result ((v : ℕ) → v < darts.now.mesh.vertices →
+        HasOneFan darts.now.mesh v)
+        (λ p. IsLeastPinch darts.now.mesh p.v p.first p.second) }
 {
-    mark_rounds(darts, first, seen);
-    pinch_left(darts, first, seen)
+    mark_rounds(darts, seen);
+    pinch_left(darts, seen)
 }
 
 // The rings of all vertices where no side is left, and else the pinch at the least vertex with one
@@ -290,18 +209,14 @@ fn judge_rings(
     alloc: Global,
     darts: &Darts<'_>,
     edge_of: &[EdgeId],
-    first: &[SideId],
     seen: &mut [bool],
 ) -> Result<Rings, NoMemory>
-    requires darts { AreDartTables darts.now.soup.now darts.now.face_of.now darts.now.mate.now }
-    requires numbers { AreEdgeNumbers darts.now.soup.now edge_of.now }
-    requires first { AreFirstSides darts.now.soup.now first.now }
-    requires met { AllMet darts.now.soup.now }
-    requires fresh { seen.old ≡ replicate (side_count darts.now.soup.now) false }
-    ensures { IfOk result (λ r. AreRings darts.now.soup.now r) }
+    requires numbers { AreEdgeNumbers darts.now.mesh edge_of.now }
+    requires fresh { seen.old ≡ replicate (side_count darts.now.mesh) false }
+    ensures { IfOk result (λ r. AreRings darts.now.mesh r) }
 {
-    let rings = go_rings(alloc, darts, edge_of, first, seen)?;
-    match pinch_left(darts, first, seen) {
+    let rings = go_rings(alloc, darts, edge_of, seen)?;
+    match pinch_left(darts, seen) {
         None => Ok(Rings::All(rings)),
         Some(Pinch { v, first, second }) => Ok(Rings::Pinched { v, first, second }),
     }
@@ -324,9 +239,14 @@ pub fn find_rings(
     ensures { IfOk result (λ r. AreRings soup.now r) }
 {
     soup.law_of_soup();
-    let darts = darts_of(soup, &pairing.mate, &pairing.face_of);
+    let darts = Darts {
+        soup,
+        face_of: &pairing.face_of,
+        mate: &pairing.mate,
+        first,
+    };
     let mut seen = vec![in alloc; false; soup.side_count() as usize]?;
-    let rings = judge_rings(alloc, &darts, &pairing.edge_of, first, &mut seen)?;
+    let rings = judge_rings(alloc, &darts, &pairing.edge_of, &mut seen)?;
     Ok(rings)
 }
 
@@ -365,8 +285,13 @@ pub fn find_pinch_by(
         HasOneFan soup.now v) (λ p. IsLeastPinch soup.now p.v p.first p.second)) }
 {
     soup.law_of_soup();
-    let darts = darts_of(soup, mate, face_of);
+    let darts = Darts {
+        soup,
+        face_of,
+        mate,
+        first,
+    };
     let mut seen = vec![in alloc; false; soup.side_count() as usize]?;
-    let found = pinch_by(&darts, first, &mut seen);
+    let found = pinch_by(&darts, &mut seen);
     Ok(found)
 }

@@ -20,8 +20,7 @@ pub enum Turn {
 
 // The place after one, around a face.
 fn after_place(count: u32, k: u32) -> u32
-    requires place { k < count }
-    requires few { count < 2 ^ 30 }
+    requires { k < count }
     ensures { result ≡ after count k }
 {
     if k + 1 < count { k + 1 } else { 0 }
@@ -29,7 +28,7 @@ fn after_place(count: u32, k: u32) -> u32
 
 // The place before one, around a face.
 fn before_place(count: u32, k: u32) -> u32
-    requires place { k < count }
+    requires { k < count }
     ensures { result ≡ before count k }
 {
     if k == 0 { count - 1 } else { k - 1 }
@@ -37,8 +36,7 @@ fn before_place(count: u32, k: u32) -> u32
 
 // The place that a step around a face leads to.
 fn place_by(turn: Turn, count: u32, k: u32) -> u32
-    requires place { k < count }
-    requires few { count < 2 ^ 30 }
+    requires { k < count }
     ensures place { result ≡ place_by turn count k }
     ensures inside { result < count }
 {

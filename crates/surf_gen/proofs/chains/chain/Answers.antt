@@ -7,6 +7,11 @@ use Rattle.surf_tori.proofs.PartLaws.{IsPart, next_numbers, part_none, part_more
 use Rattle.surf_gen.proofs.ChainLaws.{four_rows, all_small, mesh_same}
 use Rattle.surf_gen.proofs.chains.chain.Goals as goal
 
+pub invariant_of-grid-clause-few : goal.invariant_of-grid-clause-few
+invariant_of-grid-clause-few c =
+    (all_small c.args.g c.args.a c.args.b 0 c.requires.tori c.requires.rows c.requires.columns (omega arith)
+    c.requires.few_vertices c.requires.few_faces).cells
+
 pub loop-torus-init : goal.loop-torus-init
 loop-torus-init c =
     let a = c.args.a in
@@ -22,11 +27,6 @@ loop-torus-init c =
           (part_none a b c.requires.rows c.requires.columns));
       start = refl;
     }
-
-pub push_but_joint-requires-clause-few : goal.push_but_joint-requires-clause-few
-push_but_joint-requires-clause-few c =
-    (all_small c.args.g c.args.a c.args.b 0 c.requires.tori c.requires.rows c.requires.columns (omega arith)
-    c.requires.few_vertices c.requires.few_faces).cells
 
 pub push_but_joint-requires-clause-inside : goal.push_but_joint-requires-clause-inside
 push_but_joint-requires-clause-inside c =
@@ -118,10 +118,13 @@ loop-torus-preserved c =
           ∙ ap (λ (n : ℕ). (longer_chain n a b).vertices) next;
     }
 
-pub push_faces-requires-clause-few : goal.push_faces-requires-clause-few
-push_faces-requires-clause-few c =
-    (all_small c.args.g c.args.a c.args.b 0 c.requires.tori c.requires.rows c.requires.columns (omega arith)
-    c.requires.few_vertices c.requires.few_faces).cells
+pub invariant_of-grid-2 : goal.invariant_of-grid-2
+invariant_of-grid-2 c = record {
+  tall = omega (arith, c.requires.rows);
+  wide = omega (arith, c.requires.columns);
+  few = (all_small c.args.g c.args.a c.args.b 0 c.requires.tori c.requires.rows c.requires.columns (omega arith)
+      c.requires.few_vertices c.requires.few_faces).cells;
+}
 
 pub push_faces-requires-clause-few_sides : goal.push_faces-requires-clause-few_sides
 push_faces-requires-clause-few_sides c =

@@ -13,9 +13,9 @@ loop-f-preserved c =
     let pushed = c.in_ok-push_face.ensures.ok in
     let is : c.face.result ≡ face_at (torus a b) f = c.face.ensures.corners in
     let in' : f < 2 * (a * b) = omega (arith, c.loop-f-test.true, c.requires.faces) in
-    let all = count a b c.requires.rows c.requires.columns in
+    let all = count a b c.args.grid.tall c.args.grid.wide in
     let three : length c.face.result ≡ 3 =
-    ap length is ∙ torus_triangles a b f c.requires.rows c.requires.columns in' in
+    ap length is ∙ torus_triangles a b f c.args.grid.tall c.args.grid.wide in' in
     let size = c.requires.numbers in
     let u : ℕ = c.index-face-0.result in
     let v : ℕ = c.index-face-1.result in

@@ -1,4 +1,4 @@
-use Rattle.surf_surfaces.proofs.Common.{◌≡◌, ℕ, sym, ◌∙◌, arith, length-set}
+use Rattle.surf_surfaces.proofs.Common.{sym, ◌∙◌, arith, length-set}
 use Rattle.surf_soup.proofs.ForestSteps.{falls_set, twice_low, halved}
 use Rattle.surf_soup.proofs.forest.root_of.Goals as goal
 

@@ -4,4 +4,4 @@ use Rattle.surf_soup.proofs.mated.mate_rows.Given as goal
 
 abbrev pub invariant-loop-v : goal.invariant-loop-v
 invariant-loop-v l =
-    AreMatedUpto l.soup (sum_by length (take l.v l.entries)) l.mates.mate.items l.mates.last l.mates.greater.items
+    AreMatedUpto l.entries.mesh (sum_by length (take l.v l.entries.rows)) l.mates.mate.items l.mates.last l.mates.greater.items

@@ -6,10 +6,10 @@ use Rattle.surf_soup.proofs.pairing.pair_row.Goals.{then-ne-via-then-ne, then-ne
 
 pub returns-then-ne : goal.returns-then-ne
 returns-then-ne c = elim c.then-ne.branch [
-  | then-ne-via-then-ne w ↦ pair_differs c.law_of_soup.ensures.mesh c.requires.entries c.requires.vertex
+  | then-ne-via-then-ne w ↦ pair_differs c.law_of_entries.ensures.mesh c.law_of_entries.ensures.entries c.requires.vertex
       c.row-row.ensures c.new-low.ensures c.loop-k.invariant c.loop-k-test.true c.index-row-k.result
       c.index-row-k-in-loop-k-2.result (differ_told _ _ w.if-ne.ensures)
-  | then-ne-via-else-ne+then-is_last w ↦ pair_crowded c.law_of_soup.ensures.mesh c.requires.entries
+  | then-ne-via-else-ne+then-is_last w ↦ pair_crowded c.law_of_entries.ensures.mesh c.law_of_entries.ensures.entries
       c.requires.vertex c.row-row.ensures c.new-low.ensures c.loop-k.invariant c.loop-k-test.true c.index-row-k.result
       (subst (λ (es : List (ℕ × ℕ)). IsLast es (
         c.new-low.result,
@@ -22,7 +22,7 @@ join_sides-requires-clause-first c =
     omega (
       arith,
       c.loop-k.invariant.mate_size,
-      first_inside c.law_of_soup.ensures.mesh c.requires.entries c.requires.vertex c.row-row.ensures
+      first_inside c.law_of_entries.ensures.mesh c.law_of_entries.ensures.entries c.requires.vertex c.row-row.ensures
           c.new-low.ensures c.loop-k.invariant c.loop-k-test.true c.index-row-k-in-loop-k.result,
     )
 
@@ -31,7 +31,7 @@ join_sides-requires-clause-second c =
     omega (
       arith,
       c.loop-k.invariant.mate_size,
-      second_inside c.law_of_soup.ensures.mesh c.requires.entries c.requires.vertex c.row-row.ensures
+      second_inside c.law_of_entries.ensures.mesh c.law_of_entries.ensures.entries c.requires.vertex c.row-row.ensures
           c.new-low.ensures c.loop-k.invariant c.loop-k-test.true c.index-row-k-in-loop-k-3.result,
     )
 
@@ -39,15 +39,15 @@ pub join_sides-requires-clause-few : goal.join_sides-requires-clause-few
 join_sides-requires-clause-few c =
     omega (
       arith,
-      c.law_of_soup.ensures.few,
-      edges_below c.law_of_soup.ensures.mesh c.requires.entries c.requires.vertex c.row-row.ensures
+      c.law_of_entries.ensures.few,
+      edges_below c.law_of_entries.ensures.mesh c.law_of_entries.ensures.entries c.requires.vertex c.row-row.ensures
           c.new-low.ensures c.loop-k.invariant c.loop-k-test.true,
     )
 
 pub loop-k-preserved : goal.loop-k-preserved
 loop-k-preserved c =
     let made = c.in_ok-join_sides.ensures in
-    let next = pairs_next c.law_of_soup.ensures.mesh c.requires.entries c.requires.vertex c.row-row.ensures
+    let next = pairs_next c.law_of_entries.ensures.mesh c.law_of_entries.ensures.entries c.requires.vertex c.row-row.ensures
     c.new-low.ensures c.loop-k.invariant c.loop-k-test.true c.index-row-k.result c.index-row-k-in-loop-k.result
     c.index-row-k-in-loop-k-2.result c.index-row-k-in-loop-k-3.result (same_told _ _ c.if-ne.ensures)
     (λ h. true≢false (sym (c.if-is_last.ensures.1 (subst (λ (es : List (ℕ × ℕ)). IsLast es (
@@ -61,8 +61,8 @@ returns c =
     let row = c.row-row.result.now in
     let end : c.loop-k.k ≡ length row / 2 = omega (arith, c.loop-k-test.false, c.loop-k.auto.k-end) in
     elim (cases_eq (length row % 2) 0) [
-      | inl even ↦ rw (eq-eqb (length row % 2) 0 even) (row_paired c.law_of_soup.ensures.mesh c.requires.entries
+      | inl even ↦ rw (eq-eqb (length row % 2) 0 even) (row_paired c.law_of_entries.ensures.mesh c.law_of_entries.ensures.entries
           c.requires.vertex c.row-row.ensures c.new-low.ensures c.loop-k.invariant end even)
-      | inr odd ↦ rw (ne_eqb (length row % 2) 0 odd) (row_odd c.law_of_soup.ensures.mesh c.requires.entries
+      | inr odd ↦ rw (ne_eqb (length row % 2) 0 odd) (row_odd c.law_of_entries.ensures.mesh c.law_of_entries.ensures.entries
           c.requires.vertex c.row-row.ensures c.new-low.ensures c.loop-k.invariant end odd)
     ]

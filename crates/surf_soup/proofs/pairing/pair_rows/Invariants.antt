@@ -4,5 +4,5 @@ use Rattle.surf_soup.proofs.pairing.pair_rows.Given as goal
 
 abbrev pub invariant-loop-v : goal.invariant-loop-v
 invariant-loop-v l =
-    ArePairedUpto l.soup (sum_by length (take l.v l.entries)) l.pairs.edges.items l.pairs.first.items
+    ArePairedUpto l.entries.mesh (sum_by length (take l.v l.entries.rows)) l.pairs.edges.items l.pairs.first.items
     l.pairs.mate.items l.pairs.edge_of.items

@@ -1,4 +1,4 @@
-use Rattle.surf_surfaces.proofs.Common.{◌≡◌, ◌<◌, ◌≤◌, ℕ, List, [], ◌∷◌, get_or, length, sym, ap, subst, ◌∙◌, arith, get_or_read, Mesh, IsMesh, ends}
+use Rattle.surf_surfaces.proofs.Common.{◌≡◌, ◌<◌, ℕ, List, [], ◌∷◌, get_or, length, sym, ap, subst, ◌∙◌, arith, get_or_read, Mesh, IsMesh, ends}
 use Rattle.surf_soup.specs.Pairs.{IsLeastCrowd, IsFirstWithin}
 use Rattle.surf_soup.specs.EdgeTable.{IsEdgeTable}
 use Rattle.surf_soup.proofs.Owners.{length-owners}

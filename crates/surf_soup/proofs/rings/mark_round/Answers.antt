@@ -6,34 +6,34 @@ use Rattle.surf_soup.proofs.rings.mark_round.Goals as goal
 
 pub bounds-seen-index : goal.bounds-seen-index
 bounds-seen-index c =
-    let inside = marked_at c.args.darts.now.soup.now c.args.darts.now.face_of.now c.args.darts.now.mate.now
-    [] c.requires.darts c.args.home c.requires.home c.args.seen.now c.loop-seen.side
+    let inside = marked_at c.args.darts.now.mesh c.args.darts.now.mate
+    [] c.law_of_darts.ensures.tables c.args.home c.requires.home c.args.seen.now c.loop-seen.side
     c.loop-seen.head c.loop-seen.at c.loop-seen.seen c.loop-seen.invariant in
     omega (arith, inside, c.index.ensures)
 
 pub bounds-seen-index-in-loop-seen : goal.bounds-seen-index-in-loop-seen
 bounds-seen-index-in-loop-seen c =
-    let inside = marked_at c.args.darts.now.soup.now c.args.darts.now.face_of.now c.args.darts.now.mate.now
-    [] c.requires.darts c.args.home c.requires.home c.args.seen.now c.loop-seen.side
+    let inside = marked_at c.args.darts.now.mesh c.args.darts.now.mate
+    [] c.law_of_darts.ensures.tables c.args.home c.requires.home c.args.seen.now c.loop-seen.side
     c.loop-seen.head c.loop-seen.at c.loop-seen.seen c.loop-seen.invariant in
     omega (arith, inside, c.index-in-loop-seen.ensures)
 
-pub turn_dart-requires-clause-side : goal.turn_dart-requires-clause-side
-turn_dart-requires-clause-side c =
-    marked_side c.args.darts.now.soup.now c.args.darts.now.face_of.now c.args.darts.now.mate.now
-    [] c.requires.darts c.args.home c.requires.home c.args.seen.now c.loop-seen.side
+pub turn_dart-requires : goal.turn_dart-requires
+turn_dart-requires c =
+    marked_side c.args.darts.now.mesh c.args.darts.now.mate
+    [] c.law_of_darts.ensures.tables c.args.home c.requires.home c.args.seen.now c.loop-seen.side
     c.loop-seen.head c.loop-seen.at c.loop-seen.seen c.loop-seen.invariant
 
 pub loop-seen-init : goal.loop-seen-init
 loop-seen-init c =
-    marked_start c.args.darts.now.soup.now c.args.darts.now.face_of.now c.args.darts.now.mate.now
-    [] c.requires.darts c.args.home c.requires.home c.args.seen.now
+    marked_start c.args.darts.now.mesh c.args.darts.now.mate
+    [] c.law_of_darts.ensures.tables c.args.home c.requires.home c.args.seen.now
     c.side_before-side.result c.requires.size c.side_before-side.ensures
 
 pub loop-seen-smaller : goal.loop-seen-smaller
 loop-seen-smaller c =
-    let inside = marked_at c.args.darts.now.soup.now c.args.darts.now.face_of.now c.args.darts.now.mate.now
-    [] c.requires.darts c.args.home c.requires.home c.args.seen.now c.loop-seen.side
+    let inside = marked_at c.args.darts.now.mesh c.args.darts.now.mate
+    [] c.law_of_darts.ensures.tables c.args.home c.requires.home c.args.seen.now c.loop-seen.side
     c.loop-seen.head c.loop-seen.at c.loop-seen.seen c.loop-seen.invariant in
     let new = ap (marked c.loop-seen.seen) (sym c.index.ensures) ∙ c.loop-seen-test.true in
     omega (
@@ -45,14 +45,14 @@ loop-seen-smaller c =
 pub loop-seen-preserved : goal.loop-seen-preserved
 loop-seen-preserved c =
     let new = ap (marked c.loop-seen.seen) (sym c.index.ensures) ∙ c.loop-seen-test.true in
-    rw c.index-in-loop-seen.ensures (marked_next c.args.darts.now.soup.now c.args.darts.now.face_of.now c.args.darts.now.mate.now
-    [] c.requires.darts c.args.home c.requires.home c.args.seen.now c.loop-seen.side
+    rw c.index-in-loop-seen.ensures (marked_next c.args.darts.now.mesh c.args.darts.now.mate
+    [] c.law_of_darts.ensures.tables c.args.home c.requires.home c.args.seen.now c.loop-seen.side
     c.loop-seen.head c.loop-seen.at c.loop-seen.seen c.loop-seen.invariant new
     c.turn_dart.result.0 c.turn_dart.result.2 c.turn_dart.result.1 c.turn_dart.ensures.dart c.turn_dart.ensures.corner)
 
 pub returns : goal.returns
 returns c =
-    marked_end c.args.darts.now.soup.now c.args.darts.now.face_of.now c.args.darts.now.mate.now
-    [] c.requires.darts c.args.home c.requires.home c.args.seen.now c.loop-seen.side
+    marked_end c.args.darts.now.mesh c.args.darts.now.mate
+    [] c.law_of_darts.ensures.tables c.args.home c.requires.home c.args.seen.now c.loop-seen.side
     c.loop-seen.head c.loop-seen.at c.loop-seen.seen c.loop-seen.invariant c.requires.fresh
     (ap (marked c.loop-seen.seen) (sym c.index.ensures) ∙ c.loop-seen-test.false)

@@ -8,8 +8,8 @@ returns-then-f-eq0-clause-corners c =
     let f = c.args.f in
     let whole : f / 2 * 2 + f % 2 ≡ f = div-add-mod' f 2 in
     let even : f % 2 ≡ 0 = c.if-f-eq0.true in
-    let is = cell_faces_at c.args.self.rows c.args.self.columns (f / 2) c.requires.rows c.requires.columns
-    (omega (arith, whole, even, c.requires.face)) in
+    let is = cell_faces_at c.args.self.rows c.args.self.columns (f / 2) c.args.self.tall c.args.self.wide
+    (omega (arith, whole, even, c.requires)) in
     c.first_face.ensures.corners ∙ sym is.0
     ∙ ap (face_at (torus c.args.self.rows c.args.self.columns)) (omega (arith, whole, even))
 
@@ -19,7 +19,7 @@ returns-else-f-eq0-clause-corners c =
     let whole : f / 2 * 2 + f % 2 ≡ f = div-add-mod' f 2 in
     let small = mod_below f 2 (omega arith) in
     let odd = c.if-f-eq0.false in
-    let is = cell_faces_at c.args.self.rows c.args.self.columns (f / 2) c.requires.rows c.requires.columns
-    (omega (arith, whole, c.requires.face)) in
+    let is = cell_faces_at c.args.self.rows c.args.self.columns (f / 2) c.args.self.tall c.args.self.wide
+    (omega (arith, whole, c.requires)) in
     c.second_face.ensures.corners ∙ sym is.1
     ∙ ap (face_at (torus c.args.self.rows c.args.self.columns)) (omega (arith, whole, small, odd))
