@@ -1,5 +1,5 @@
 //! The tables of one tree of faces.
-ghost use Rattle.std.specs.Prelude.{◌≡◌, ◌<◌, ◌≤◌, length, slice_index, slice_index_or, map, false, IfOk, ℕ};
+ghost use Rattle.std.specs.Prelude.{◌≡◌, ◌<◌, ◌≤◌, length, slice_index, slice_index_or, map, false, IfOk};
 ghost use Rattle.std.specs.List.{range_with_len};
 ghost use Rattle.surf_graphs.specs.Cells.{IsSplit};
 ghost use Rattle.surf_graphs.specs.Trees.{Tree};
@@ -8,7 +8,6 @@ ghost use Rattle.surf_surfaces.specs.Surface.{edge_count, loop_count};
 ghost use Rattle.surf_surfaces.specs.Signature.{edge_signature};
 ghost use Rattle.surf_cotree.specs.Tables.{CotreeTables, AreCotreeTables, parent_edge_of, width_for, split_with};
 ghost use Rattle.surf_base.specs.Tables.{at};
-ghost use Rattle.surf_cotree.specs.Searches.{heaviest};
 ghost use Rattle.surf_cotree.specs.Grown.{MarkTree, IsGrown, IsGrownOn};
 ghost use Rattle.surf_base.specs.declared.limits.TheConstants.{MAX_LOOPS};
 
@@ -130,8 +129,6 @@ impl CotreeDesk {
         requires made { AreCotreeTables mesh.now self.old }
         requires marks { length in_tree.now ≡ edge_count mesh.now }
         requires weights { W.count weight.now ≡ edge_count mesh.now }
-        requires valid { W.valid weight.now }
-        requires light { (e : ℕ) → W.weight weight.now e ≤ heaviest }
         requires tree { MarkTree mesh.now in_tree.now }
         ensures grown { IsGrown mesh.now in_tree.now (W.weight weight.now) self.new }
     {

@@ -5,7 +5,7 @@ ghost use Rattle.surf_graphs.specs.Cells.{dual};
 ghost use Rattle.surf_surfaces.specs.Surface.{face_count, edge_count};
 ghost use Rattle.surf_surfaces.specs.Cells.{cells_of};
 ghost use Rattle.surf_heap.specs.Entries.{IsEmpty};
-ghost use Rattle.surf_cotree.specs.Searches.{heaviest, flag, outside};
+ghost use Rattle.surf_cotree.specs.Searches.{flag, outside};
 ghost use Rattle.surf_cotree.specs.Marking.{IsMarking, HasMarking};
 ghost use Rattle.surf_cotree.specs.Peeling.{IsPeeledTo};
 ghost use Rattle.surf_cotree.specs.Grown.{MarkTree, HasGrown};
@@ -47,8 +47,6 @@ fn mark_span<W: Weights>(
 )
     requires marks { length marks.old ≡ edge_count mesh.now }
     requires weights { W.count weight.now ≡ edge_count mesh.now }
-    requires valid { W.valid weight.now }
-    requires light { (e : ℕ) → W.weight weight.now e ≤ heaviest }
     requires faces { length there.old ≡ face_count mesh.now }
     requires none { (f : ℕ) → f < face_count mesh.now → flag there.old f ≡ false }
     requires places { length heap.old ≡ face_count mesh.now }
@@ -100,8 +98,6 @@ fn mark_tree<W: Weights>(
 ) -> Result<(), NoMemory>
     requires marks { length marks.old ≡ edge_count mesh.now }
     requires weights { W.count weight.now ≡ edge_count mesh.now }
-    requires valid { W.valid weight.now }
-    requires light { (e : ℕ) → W.weight weight.now e ≤ heaviest }
     ensures marking { OnOk result (HasMarking (dual (cells_of mesh.now)) (outside marks.old)
         (W.weight weight.now) marks.new) }
 {
@@ -150,8 +146,6 @@ impl CotreeEdges {
     ) -> Result<CotreeEdges, NoMemory>
         requires marks { length in_tree.now ≡ edge_count mesh.now }
         requires weights { W.count weight.now ≡ edge_count mesh.now }
-        requires valid { W.valid weight.now }
-        requires light { (e : ℕ) → W.weight weight.now e ≤ heaviest }
         requires tree { MarkTree mesh.now in_tree.now }
         ensures grown { IfOk result (λ edges. HasGrown mesh.now in_tree.now
             (W.weight weight.now) edges) }

@@ -9,7 +9,7 @@ ghost use Rattle.surf_mesh.specs.Links.{side_link};
 ghost use Rattle.surf_cotree.specs.Searches.{outside, reached};
 ghost use Rattle.surf_cotree.specs.Peeling.{IsOnlyEdge, TakesLeaf, IsPeeledBy, IsPeeledTo, IsHungBy};
 
-use crate::search::NOBODY;
+use crate::search::{FaceNetwork, NOBODY};
 use surf_base::{EdgeId, FaceId, SideId};
 use surf_mesh::HalfMesh;
 
@@ -18,29 +18,31 @@ use surf_mesh::HalfMesh;
 const FEW_SIDES: u32 = 8;
 
 // Whether the edge of a side has no mark.
-fn is_bare(mesh: &HalfMesh, marks: &[bool], side: SideId) -> bool
-    requires side { side < side_count mesh.now }
-    requires marks { length marks.now ≡ edge_count mesh.now }
-    ensures bare { result ≡ outside marks.now (side_link mesh.now side).1 }
+fn is_bare(network: &FaceNetwork<'_>, side: SideId) -> bool
+    requires side { side < side_count network.now.mesh.now }
+    ensures bare { result ≡ outside network.now.marks.now
+        (side_link network.now.mesh.now side).1 }
 {
-    let edge = mesh.edge_of(side);
+    let marks = network.marks;
+    let edge = network.mesh.edge_of(side);
     !marks[edge.index()]
 }
 
 // The side of a face whose edge isn't marked, where there is exactly one.
-fn only_side(mesh: &HalfMesh, marks: &[bool], face: FaceId) -> Option<SideId>
-    requires face { face < face_count mesh.now }
-    requires marks { length marks.now ≡ edge_count mesh.now }
-    ensures side { IfSome result (λ s. s < side_count mesh.now) }
-    ensures only { IfSome result (λ s. IsOnlyEdge (dual (cells_of mesh.now))
-        (outside marks.now) face (side_link mesh.now s).0 (side_link mesh.now s).1) }
+fn only_side(network: &FaceNetwork<'_>, face: FaceId) -> Option<SideId>
+    requires face { face < face_count network.now.mesh.now }
+    ensures side { IfSome result (λ s. s < side_count network.now.mesh.now) }
+    ensures only { IfSome result (λ s. IsOnlyEdge (dual (cells_of network.now.mesh.now))
+        (outside network.now.marks.now) face (side_link network.now.mesh.now s).0
+        (side_link network.now.mesh.now s).1) }
 {
+    let mesh = network.mesh;
     mesh.law_of_surface();
     let mut found = None;
     let (start, end) = mesh.side_span(face);
     for s in start..end {
         let side = SideId::new(s);
-        if is_bare(mesh, marks, side) {
+        if is_bare(network, side) {
             if found.is_some() {
                 return None;
             }
@@ -51,14 +53,13 @@ fn only_side(mesh: &HalfMesh, marks: &[bool], face: FaceId) -> Option<SideId>
 }
 
 // How many sides of a face have no mark.
-fn count_bare(mesh: &HalfMesh, marks: &[bool], face: FaceId) -> u32
-    requires face { face < face_count mesh.now }
-    requires marks { length marks.now ≡ edge_count mesh.now }
+fn count_bare(network: &FaceNetwork<'_>, face: FaceId) -> u32
+    requires face { face < face_count network.now.mesh.now }
 {
     let mut count: u32 = 0;
-    let (start, end) = mesh.side_span(face);
+    let (start, end) = network.mesh.side_span(face);
     for s in start..end {
-        if is_bare(mesh, marks, SideId::new(s)) {
+        if is_bare(network, SideId::new(s)) {
             count = count.saturating_add(1);
         }
     }
@@ -76,15 +77,14 @@ fn is_great(mesh: &HalfMesh, face: FaceId) -> bool
 // Whether a face may hang by one edge, when its turn comes. Of a great face the sides without a
 // mark are counted. Nothing but time rests on the counts, since a face is walked round before it is
 // taken off.
-fn may_hang(mesh: &HalfMesh, marks: &[bool], bare: &mut [u32], face: u32) -> bool
-    requires face { face < face_count mesh.now }
-    requires marks { length marks.now ≡ edge_count mesh.now }
-    requires counts { length bare.old ≡ face_count mesh.now }
+fn may_hang(network: &FaceNetwork<'_>, bare: &mut [u32], face: u32) -> bool
+    requires face { face < face_count network.now.mesh.now }
+    requires counts { length bare.old ≡ face_count network.now.mesh.now }
 {
-    if !is_great(mesh, FaceId::new(face)) {
+    if !is_great(network.mesh, FaceId::new(face)) {
         return true;
     }
-    let count = count_bare(mesh, marks, FaceId::new(face));
+    let count = count_bare(network, FaceId::new(face));
     bare[face as usize] = count;
     count == 1
 }
@@ -118,7 +118,7 @@ fn take_leaf(mesh: &HalfMesh, marks: &mut [bool], face: u32) -> Option<(EdgeId, 
     if face == 0 {
         return None;
     }
-    let side = only_side(mesh, marks, FaceId::new(face))?;
+    let side = only_side(&FaceNetwork { mesh, marks }, FaceId::new(face))?;
     let (on, edge) = mesh.across(side);
     marks[edge.index()] = true;
     Some((edge, on.number()))
@@ -143,7 +143,7 @@ fn list_chain(
 {
     let mut count = taken;
     let mut face = from;
-    let mut hangs = may_hang(mesh, marks, bare, from);
+    let mut hangs = may_hang(&FaceNetwork { mesh, marks }, bare, from);
     while hangs && count < leaves.len() {
         let Some((edge, on)) = take_leaf(mesh, marks, face) else {
             break;
@@ -187,7 +187,7 @@ fn take_chain(mesh: &HalfMesh, marks: &mut [bool], bare: &mut [u32], from: u32)
         (outside marks.old) → IsPeeledTo (dual (cells_of mesh.now)) allowed (outside marks.new) }
 {
     let mut face = from;
-    let mut hangs = may_hang(mesh, marks, bare, from);
+    let mut hangs = may_hang(&FaceNetwork { mesh, marks }, bare, from);
     while hangs {
         let Some((_, on)) = take_leaf(mesh, marks, face) else {
             break;

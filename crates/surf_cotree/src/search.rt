@@ -22,6 +22,7 @@ pub(crate) const NOBODY: u32 = u32::MAX;
 pub(crate) struct FaceNetwork<'a> {
     pub mesh: &'a HalfMesh,
     pub marks: &'a [bool],
+    pub ghost fit: { length marks.now ≡ edge_count mesh.now },
 }
 
 /// Which faces a search has reached.
@@ -85,7 +86,6 @@ fn leads_on<R: Reached>(marks: &[bool], there: &R, edge: EdgeId, face: FaceId) -
 fn offer_by<W: Weights>(heap: &mut Heap, weight: &W, edge: EdgeId, face: FaceId)
     requires face { face < length heap.old }
     requires edge { edge < W.count weight.now }
-    requires valid { W.valid weight.now }
     ensures entry { heap.new ≡ slice_set heap.old face (Some (lesser (entry_of heap.old face)
         (heaviest - W.weight weight.now edge) (nobody - edge))) }
 {
@@ -103,10 +103,7 @@ pub(crate) fn offer_neighbours<W: Weights, R: Reached>(
 )
     requires face { face < face_count network.now.mesh.now }
     requires faces { R.count there.now ≡ face_count network.now.mesh.now }
-    requires marks { length network.now.marks.now ≡ edge_count network.now.mesh.now }
     requires weights { W.count weight.now ≡ edge_count network.now.mesh.now }
-    requires valid { W.valid weight.now }
-    requires light { (e : ℕ) → W.weight weight.now e ≤ heaviest }
     requires places { length heap.old ≡ face_count network.now.mesh.now }
     ensures offered { IsOffered (dual (cells_of network.now.mesh.now))
         (outside network.now.marks.now) (W.weight weight.now) (R.reaches there.now)
@@ -144,10 +141,7 @@ pub(crate) fn span<W: Weights>(
     requires depths { length depth.old ≡ face_count network.now.mesh.now }
     requires parents { length parent.old ≡ face_count network.now.mesh.now }
     requires ups { length up.old ≡ face_count network.now.mesh.now }
-    requires marks { length network.now.marks.now ≡ edge_count network.now.mesh.now }
     requires weights { W.count weight.now ≡ edge_count network.now.mesh.now }
-    requires valid { W.valid weight.now }
-    requires light { (e : ℕ) → W.weight weight.now e ≤ heaviest }
     requires places { length heap.old ≡ face_count network.now.mesh.now }
     ensures grown { IsPrim (dual (cells_of network.now.mesh.now)) (outside network.now.marks.now)
         (W.weight weight.now) (reached depth.new) (spanned_tree 0 parent.new up.new depth.new)

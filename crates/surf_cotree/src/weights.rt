@@ -13,20 +13,20 @@ pub trait Weights {
     // how many edges have one
     ghost count: { Self → ℕ };
 
-    // what has to hold of the tables
-    ghost valid: { Self → Type 0 };
-
     /// The weight of an edge.
     fn weight_of(&self, edge: EdgeId) -> u64
-        requires valid { valid self.now }
         requires edge { edge < count self.now }
         ensures weight { result ≡ weight self.now edge };
+
+    // no weight is past the greatest number of a table
+    ghost light: { (w : Self) (e : ℕ) → weight w e ≤ heaviest };
 }
 
 /// Weights in a list.
 #[derive(Drop)]
 pub(crate) struct Listed<'a> {
     pub weights: &'a [u64],
+    ghost fit: { (e : ℕ) → at weights.now e ≤ heaviest },
 }
 
 impl Weights for Listed<'_> {
@@ -34,7 +34,7 @@ impl Weights for Listed<'_> {
 
     ghost count = { λ w. length w.weights.now };
 
-    ghost valid = { λ w. (e : ℕ) → at w.weights.now e ≤ heaviest };
+    ghost light = { λ w. w.fit };
 
     #[inline]
     fn weight_of(&self, edge: EdgeId) -> u64 {

@@ -1,9 +1,8 @@
 -- What a loop desk holds after it has found the loops at a base.
-use Rattle.std.specs.Prelude.{ℕ, ◌≡◌, ◌≢◌, ◌<◌, ◌≤◌, ◌^◌, Bool, List, length, map, All, slice_index, Some, None}
+use Rattle.std.specs.Prelude.{ℕ, ◌≡◌, ◌≢◌, ◌<◌, ◌≤◌, Bool, List, length, map, All, slice_index, Some, None}
 use Rattle.surf_graphs.specs.Cells.{primal}
 use Rattle.surf_graphs.specs.Trees.{IsTree}
 use Rattle.surf_surfaces.specs.Mesh.{Mesh}
-use Rattle.surf_surfaces.specs.Surface.{edge_count}
 use Rattle.surf_surfaces.specs.Cells.{cells_of}
 use Rattle.surf_surfaces.specs.Walk.{IsClosed}
 use Rattle.surf_surfaces.specs.Homology.{IsIndependent}
@@ -36,12 +35,6 @@ with_cotree t cotree = record { tree = t.tree; cotree = cotree; heads = t.heads 
 pub record AreLoopTables (mesh : Mesh) (t : LoopTables) : Type 0 where
   pub tree : AreTreeTables mesh t.tree
   pub cotree : AreCotreeTables mesh t.cotree
-
--- what the lengths of loops are told by: a length for each edge, and distances far below the greatest number
-pub record AreLoopParts (mesh : Mesh) (lengths : List ℕ) (t : TreeTables) : Type 0 where
-  pub tables : AreTreeTables mesh t
-  pub count : length lengths ≡ edge_count mesh
-  pub fits : (v : ℕ) → v < mesh.vertices → slice_index t.distances v < 2 ^ 62
 
 -- the two trees
 abbrev pub trees_of : LoopTables → Trees

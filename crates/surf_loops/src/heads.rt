@@ -4,9 +4,9 @@ ghost use Rattle.std.specs.Prelude.{IsPermutation};
 ghost use Rattle.std.specs.List.Sorted.{IsNonDecreasingBy};
 ghost use Rattle.surf_surfaces.specs.Surface.{edge_count};
 ghost use Rattle.surf_surfaces.specs.Loop.{loop_length};
-ghost use Rattle.surf_tree.specs.Tables.{AreTreeTables, tree_of};
+ghost use Rattle.surf_tree.specs.Tables.{tree_of};
+ghost use Rattle.surf_cotree.specs.Searches.{heaviest};
 ghost use Rattle.surf_loops.specs.Heads.{head_of, order_of};
-ghost use Rattle.surf_loops.specs.Loops.{AreLoopParts};
 
 use crate::head::LoopHead;
 use surf_base::EdgeId;
@@ -15,26 +15,17 @@ use surf_lengths::Lengths;
 use surf_mesh::HalfMesh;
 use surf_tree::TreeDesk;
 
-// The length of the loop of an edge: the distances of its ends from the base of a tree of shortest
-// walks and its own length.
-fn loop_length(mesh: &HalfMesh, lengths: &Lengths, tree: &TreeDesk, edge: EdgeId) -> u64
-    requires edge { edge < edge_count mesh.now }
-    requires tables { AreTreeTables mesh.now tree.now }
-    requires lengths { length lengths.now ≡ edge_count mesh.now }
-    requires fits { (v : ℕ) → v < mesh.now.vertices → slice_index tree.now.distances v < 2 ^ 62 }
-    ensures length { result ≡ loop_length mesh.now lengths.now (tree_of tree.now) edge }
-{
-    mesh.law_of_surface();
-    let (u, v) = mesh.ends(edge);
-    tree.distance(u) + u64::from(lengths.of(edge)) + tree.distance(v)
-}
-
-/// The length of the loop of each edge by a tree of shortest walks.
+/// The length of the loop of each edge by a tree of shortest walks: the distances of its ends from
+/// the base and its own length.
 #[derive(Drop)]
 pub(crate) struct LoopLengths<'a> {
     pub mesh: &'a HalfMesh,
     pub lengths: &'a Lengths,
     pub tree: &'a TreeDesk,
+    ghost reached: { length tree.now.distances ≡ mesh.now.vertices },
+    ghost measured: { length lengths.now ≡ edge_count mesh.now },
+    ghost near: { (v : ℕ) → v < mesh.now.vertices → slice_index tree.now.distances v < 2 ^ 62 },
+    ghost fit: { (e : ℕ) → loop_length mesh.now lengths.now (tree_of tree.now) e ≤ heaviest },
 }
 
 impl Weights for LoopLengths<'_> {
@@ -42,17 +33,18 @@ impl Weights for LoopLengths<'_> {
 
     ghost count = { λ w. edge_count w.mesh.now };
 
-    ghost valid = { λ w. AreLoopParts w.mesh.now w.lengths.now w.tree.now };
+    ghost light = { λ w. w.fit };
 
     fn weight_of(&self, edge: EdgeId) -> u64 {
-        loop_length(self.mesh, self.lengths, self.tree, edge)
+        self.mesh.law_of_surface();
+        let (u, v) = self.mesh.ends(edge);
+        self.tree.distance(u) + u64::from(self.lengths.of(edge)) + self.tree.distance(v)
     }
 }
 
 // Lists the heads of edges, in room that there is.
 fn fill_heads(left: &[EdgeId], loops: &LoopLengths<'_>, heads: &mut Vec<LoopHead>)
     requires inside { All (λ e. e < edge_count loops.now.mesh.now) left.now }
-    requires parts { AreLoopParts loops.now.mesh.now loops.now.lengths.now loops.now.tree.now }
     requires room { length left.now ≤ vec_capacity heads.old }
     ensures heads { heads.new.items ≡ map (head_of (loop_length loops.now.mesh.now
         loops.now.lengths.now (tree_of loops.now.tree.now))) left.now }
@@ -86,7 +78,6 @@ fn sort_heads(heads: &mut [LoopHead])
 // Lists the heads of edges in their order.
 pub(crate) fn list_heads(left: &[EdgeId], loops: &LoopLengths<'_>, heads: &mut Vec<LoopHead>)
     requires inside { All (λ e. e < edge_count loops.now.mesh.now) left.now }
-    requires parts { AreLoopParts loops.now.mesh.now loops.now.lengths.now loops.now.tree.now }
     requires room { length left.now ≤ vec_capacity heads.old }
     ensures same { IsPermutation (map (head_of (loop_length loops.now.mesh.now
         loops.now.lengths.now (tree_of loops.now.tree.now))) left.now) heads.new.items }

@@ -13,13 +13,18 @@ ghost use Rattle.surf_signatures.specs.Tables.{face_tree};
 use surf_base::EdgeId;
 use surf_mesh::HalfMesh;
 
-/// A tree of the faces by three tables: for each face but face 0 the face that it hangs on and the
-/// edge between them, and for each face its depth.
+/// A tree of the faces of a mesh by three tables: for each face but face 0 the face that it hangs on
+/// and the edge between them, and for each face its depth.
 #[derive(Drop)]
 pub(crate) struct FaceTree<'t> {
+    pub mesh: &'t HalfMesh,
     pub parent: &'t [u32],
     pub up: &'t [u32],
     pub depth: &'t [u32],
+    pub ghost ups: { length up.now ≡ face_count mesh.now },
+    pub ghost parents: { length parent.now ≡ face_count mesh.now },
+    pub ghost spans: { IsTree (dual (cells_of mesh.now))
+        (face_tree parent.now up.now depth.now) },
 }
 
 // Tells proofs the range of the words.
@@ -31,8 +36,6 @@ fn words_fit(signs: &[u64])
 fn toggle(signs: &mut [u64], words: usize, edge: usize, k: usize)
     requires bit { k < 64 * words }
     requires cell { cell words edge k < length signs.old }
-    requires row { edge * words < 2 ^ 63 }
-    requires words { words < 2 ^ 63 }
     ensures turned { (e j : ℕ) → j < 64 * words →
         sign_bit signs.new words e j ≡ xor (sign_bit signs.old words e j) (eqb edge e && eqb k j) }
 {
@@ -67,28 +70,17 @@ fn deeper_first(tree: &FaceTree<'_>, near: u32, far: u32) -> (u32, u32)
 }
 
 // Turns bit `k` of the edges between two faces, from both up to where their ways meet.
-fn turn_between(
-    mesh: &HalfMesh,
-    tree: &FaceTree<'_>,
-    signs: &mut [u64],
-    words: usize,
-    ends: (u32, u32),
-    k: usize,
-)
-    requires tree { IsTree (dual (cells_of mesh.now))
-        (face_tree tree.now.parent.now tree.now.up.now tree.now.depth.now) }
-    requires ups { length tree.now.up.now ≡ face_count mesh.now }
-    requires parents { length tree.now.parent.now ≡ face_count mesh.now }
-    requires faces { (ends.0 < face_count mesh.now) × (ends.1 < face_count mesh.now) }
+fn turn_between(tree: &FaceTree<'_>, signs: &mut [u64], words: usize, ends: (u32, u32), k: usize)
+    requires faces { (ends.0 < face_count tree.now.mesh.now)
+        × (ends.1 < face_count tree.now.mesh.now) }
     requires bit { k < 64 * words }
-    requires few { words ≤ 16 }
-    requires room { length signs.old ≡ edge_count mesh.now * words }
+    requires room { length signs.old ≡ edge_count tree.now.mesh.now * words }
     ensures turned { (e j : ℕ) → j < 64 * words →
         sign_bit signs.new words e j ≡ xor (sign_bit signs.old words e j)
         (between (face_tree tree.now.parent.now tree.now.up.now tree.now.depth.now)
         ends.0 ends.1 e && eqb k j) }
 {
-    mesh.law_of_surface();
+    tree.mesh.law_of_surface();
     let mut near = ends.0;
     let mut far = ends.1;
     while near != far {
@@ -113,34 +105,23 @@ fn faces_beside(mesh: &HalfMesh, edge: EdgeId) -> (u32, u32)
 
 // Writes the signatures of all edges: each left edge has its own place, and so have the edges of
 // the tree between its two faces.
-pub(crate) fn write_signs(
-    mesh: &HalfMesh,
-    tree: &FaceTree<'_>,
-    left: &[EdgeId],
-    signs: &mut [u64],
-    words: usize,
-)
-    requires tree { IsTree (dual (cells_of mesh.now))
-        (face_tree tree.now.parent.now tree.now.up.now tree.now.depth.now) }
-    requires ups { length tree.now.up.now ≡ face_count mesh.now }
-    requires parents { length tree.now.parent.now ≡ face_count mesh.now }
-    requires left { (k : ℕ) → k < length left.now → at left.now k < edge_count mesh.now }
+pub(crate) fn write_signs(tree: &FaceTree<'_>, left: &[EdgeId], signs: &mut [u64], words: usize)
+    requires left { (k : ℕ) → k < length left.now → at left.now k < edge_count tree.now.mesh.now }
     requires bits { length left.now ≤ 64 * words }
-    requires few { words ≤ 16 }
-    requires room { length signs.old ≡ edge_count mesh.now * words }
+    requires room { length signs.old ≡ edge_count tree.now.mesh.now * words }
     ensures fit { (k : ℕ) → at signs.new k < 2 ^ 64 }
     ensures rest { (e k : ℕ) → length left.now ≤ k → k < 64 * words →
         sign_bit signs.new words e k ≡ false }
     ensures signature { (e k : ℕ) → k < length left.now →
-        sign_bit signs.new words e k ≡ has_left (dual (cells_of mesh.now))
+        sign_bit signs.new words e k ≡ has_left (dual (cells_of tree.now.mesh.now))
         (face_tree tree.now.parent.now tree.now.up.now tree.now.depth.now) (at left.now k) e }
 {
-    mesh.law_of_surface();
+    tree.mesh.law_of_surface();
     signs.fill(0);
     for k in 0..left.len() {
         let edge = left[k];
         toggle(signs, words, edge.index(), k);
-        turn_between(mesh, tree, signs, words, faces_beside(mesh, edge), k);
+        turn_between(tree, signs, words, faces_beside(tree.mesh, edge), k);
     }
     words_fit(signs);
 }

@@ -131,13 +131,13 @@ impl Signs {
         mesh.law_of_surface();
         let words = words_of(self.width);
         fill_up(&mut self.table, self.edges as usize * words);
-        write_signs(
+        let tree = FaceTree {
             mesh,
-            &FaceTree { parent, up, depth },
-            left,
-            &mut self.table,
-            words,
-        );
+            parent,
+            up,
+            depth,
+        };
+        write_signs(&tree, left, &mut self.table, words);
     }
 
     /// The set of an edge, lent.

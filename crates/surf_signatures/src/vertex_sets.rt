@@ -36,7 +36,6 @@ impl Model for VertexSets {
 
 // Writes a set over that of a vertex.
 fn put_at(table: &mut [u64], words: usize, vertex: usize, numbers: &Bits<'_>)
-    requires few { words ≤ 16 }
     requires fits { numbers.now < 2 ^ (64 * words) }
     requires room { vertex * words + words ≤ length table.old }
     ensures put { (v : ℕ) → row_of words table.new v ≡ (if vertex == v then numbers.now

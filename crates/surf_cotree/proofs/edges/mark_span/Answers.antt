@@ -13,7 +13,7 @@ pub loop-face-init : goal.loop-face-init
 loop-face-init gen c =
     let mesh = c.args.mesh.now in
     let few : edge_count mesh ≤ nobody = omega (arith, c.law_of_surface.ensures.edges) in
-    marking_begins (dual (cells_of mesh)) (gen.W.Weights.weight c.args.weight.now) (graph_is mesh c.law_of_surface.ensures.surface) few c.requires.light c.args.marks.now c.args.there.now c.args.heap.now c.offer_neighbours.new.heap
+    marking_begins (dual (cells_of mesh)) (gen.W.Weights.weight c.args.weight.now) (graph_is mesh c.law_of_surface.ensures.surface) few (gen.met.W.Weights.light c.args.weight.now) c.args.marks.now c.args.there.now c.args.heap.now c.offer_neighbours.new.heap
     c.law_of_surface.ensures.surface.some_face c.requires.faces c.requires.none c.requires.empty c.requires.places c.offer_neighbours.ensures.offered
 
 -- what was taken out is a face with an edge
@@ -26,9 +26,9 @@ its_face gen c =
     let few : edge_count mesh ≤ nobody = omega (arith, c.law_of_surface.ensures.edges) in
     let small : face_count mesh ≤ nobody = omega (arith, c.law_of_surface.ensures.faces) in
     let least = c.in-Some.ensures.taken.0 in (
-      face_in g (outside c.args.marks.now) weight graph few c.requires.light small c.loop-face.marks c.loop-face.there c.loop-face.heap c.loop-face.invariant c.in-Some.face c.in-Some.field-0-1 c.in-Some.tie least,
-      edge_in g (outside c.args.marks.now) weight graph few c.requires.light small c.loop-face.marks c.loop-face.there c.loop-face.heap c.loop-face.invariant c.in-Some.face c.in-Some.field-0-1 c.in-Some.tie least,
-      not_there g (outside c.args.marks.now) weight graph few c.requires.light small c.loop-face.marks c.loop-face.there c.loop-face.heap c.loop-face.invariant c.in-Some.face c.in-Some.field-0-1 c.in-Some.tie least,
+      face_in g (outside c.args.marks.now) weight graph few (gen.met.W.Weights.light c.args.weight.now) small c.loop-face.marks c.loop-face.there c.loop-face.heap c.loop-face.invariant c.in-Some.face c.in-Some.field-0-1 c.in-Some.tie least,
+      edge_in g (outside c.args.marks.now) weight graph few (gen.met.W.Weights.light c.args.weight.now) small c.loop-face.marks c.loop-face.there c.loop-face.heap c.loop-face.invariant c.in-Some.face c.in-Some.field-0-1 c.in-Some.tie least,
+      not_there g (outside c.args.marks.now) weight graph few (gen.met.W.Weights.light c.args.weight.now) small c.loop-face.marks c.loop-face.there c.loop-face.heap c.loop-face.invariant c.in-Some.face c.in-Some.field-0-1 c.in-Some.tie least,
     )
 
 pub bounds-marks-tie : goal.bounds-marks-tie
@@ -49,6 +49,6 @@ loop-face-preserved gen c =
     let mesh = c.args.mesh.now in
     let few : edge_count mesh ≤ nobody = omega (arith, c.law_of_surface.ensures.edges) in
     let small : face_count mesh ≤ nobody = omega (arith, c.law_of_surface.ensures.faces) in
-    marking_goes_on (dual (cells_of mesh)) (outside c.args.marks.now) (gen.W.Weights.weight c.args.weight.now) (graph_is mesh c.law_of_surface.ensures.surface) few c.requires.light small c.loop-face.marks c.loop-face.there c.loop-face.heap c.loop-face.invariant
+    marking_goes_on (dual (cells_of mesh)) (outside c.args.marks.now) (gen.W.Weights.weight c.args.weight.now) (graph_is mesh c.law_of_surface.ensures.surface) few (gen.met.W.Weights.light c.args.weight.now) small c.loop-face.marks c.loop-face.there c.loop-face.heap c.loop-face.invariant
     c.in-Some.face c.in-Some.field-0-1 c.in-Some.tie c.in-Some.ensures.taken.0 c.take_least.new.self c.offer_neighbours-in-Some.new.heap
     (omega (arith, c.requires.marks, c.loop-face.auto.marks)) (omega (arith, n, c.requires.faces, c.loop-face.auto.there)) c.in-Some.ensures.taken.1 c.offer_neighbours-in-Some.ensures.offered

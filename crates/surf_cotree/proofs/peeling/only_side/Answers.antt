@@ -8,14 +8,14 @@ use Rattle.surf_cotree.proofs.peeling.only_side.Goals.{then-is_bare+else-is_some
 
 pub loop-s-preserved : goal.loop-s-preserved
 loop-s-preserved c =
-    let mesh = c.args.mesh.now in
+    let mesh = c.args.network.now.mesh.now in
     let start = c.side_span-start.result.0 in
     let end = c.side_span-start.result.1 in
     let n = c.loop-s.s - start in
     let from = c.loop-s.invariant.from in
     let side = c.new-side.result in
     let link : ℕ → ℕ × ℕ = link_at (links mesh start end) in
-    let rest = outside c.args.marks.now in
+    let rest = outside c.args.network.now.marks.now in
     let next : n + 1 ≡ c.loop-s.s + 1 - start = omega (arith, from) in
     let is : link n ≡ side_link mesh side = link_is mesh start end c.loop-s.s side from c.loop-s-test.true c.new-side.ensures in
     let inside : side < side_count mesh = omega (arith, c.new-side.ensures, c.loop-s-test.true, c.side_span-start.ensures.inside) in
@@ -30,11 +30,11 @@ loop-s-preserved c =
 
 pub returns-clause-only : goal.returns-clause-only
 returns-clause-only c =
-    let mesh = c.args.mesh.now in
+    let mesh = c.args.network.now.mesh.now in
     let start = c.side_span-start.result.0 in
     let end = c.side_span-start.result.1 in
     let from = c.loop-s.invariant.from in
     let long : length (links mesh start end) ≡ end - start = links_many mesh start end in
     let its_row = links_row mesh c.law_of_surface.ensures.surface c.args.face start end c.requires.face c.side_span-start.ensures.start c.side_span-start.ensures.end in
     let ended : c.loop-s.s - start ≡ end - start = omega (arith, from, c.loop-s-test.false, c.loop-s.auto.s-end) in
-    found_only (dual (cells_of mesh)) (outside c.args.marks.now) (side_link mesh) c.args.face (links mesh start end) (c.loop-s.s - start) c.loop-s.found its_row (long ∙ sym ended) c.loop-s.invariant.only
+    found_only (dual (cells_of mesh)) (outside c.args.network.now.marks.now) (side_link mesh) c.args.face (links mesh start end) (c.loop-s.s - start) c.loop-s.found its_row (long ∙ sym ended) c.loop-s.invariant.only

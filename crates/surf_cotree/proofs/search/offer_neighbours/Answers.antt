@@ -30,7 +30,7 @@ its_ends gen c =
     (omega (arith, long, c.loop-s.invariant.from, c.loop-s-test.true)) c.across-next.result (its_link gen c)
 
 pub leads_on-requires-clause-edge : goal.leads_on-requires-clause-edge
-leads_on-requires-clause-edge gen c = let l = (its_ends gen (goal.at.leads_on-requires-clause-edge gen c).After-across-next).1 in omega (arith, l, c.requires.marks)
+leads_on-requires-clause-edge gen c = let l = (its_ends gen (goal.at.leads_on-requires-clause-edge gen c).After-across-next).1 in omega (arith, l, c.args.network.now.fit)
 
 pub leads_on-requires-clause-face : goal.leads_on-requires-clause-face
 leads_on-requires-clause-face gen c = let l = (its_ends gen (goal.at.leads_on-requires-clause-face gen c).After-across-next).0 in omega (arith, l, c.requires.faces)
@@ -69,7 +69,7 @@ loop-s-preserved gen c =
           let few : g.edges ≤ nobody = omega (arith, c.law_of_surface.ensures.edges) in
           rw (b.heap-is, sym next) (record {
             from = omega (arith, from);
-            some = link_more g allowed weight there c.args.face (links mesh start end) row c.args.heap.now c.loop-s.heap n some ln p is b.offer_by.new.heap both.0 (not-true (there p.0) both.1) in_heap (c.requires.light p.1) few b.offer_by.ensures.entry;
+            some = link_more g allowed weight there c.args.face (links mesh start end) row c.args.heap.now c.loop-s.heap n some ln p is b.offer_by.new.heap both.0 (not-true (there p.0) both.1) in_heap (gen.met.W.Weights.light c.args.weight.now p.1) few b.offer_by.ensures.entry;
           })
       | else-leads_on b ↦
           let shut : (allowed p.1 && not (there p.0)) ≡ false = sym c.leads_on.ensures.leads ∙ b.if-leads_on.false in

@@ -25,7 +25,7 @@ loop-face-init gen c =
     record {
       places = c.offer_neighbours.ensures.offered.same_length ∙ (ap length c.clear.ensures.empty ∙ (length-replicate {A = Option (ℕ × ℕ)} (length c.args.heap.now) None ∙ c.requires.places));
       root = get_or-set_same c.args.up.now 0 nobody 0 lu;
-      prim = prim_begins g (outside c.args.network.now.marks.now) (gen.W.Weights.weight c.args.weight.now) (graph_is c.args.network.now.mesh.now c.law_of_surface.ensures.surface) few c.requires.light (reached (set fresh 0 0)) (spanned_tree 0 c.args.parent.now (set c.args.up.now 0 nobody) (set fresh 0 0))
+      prim = prim_begins g (outside c.args.network.now.marks.now) (gen.W.Weights.weight c.args.weight.now) (graph_is c.args.network.now.mesh.now c.law_of_surface.ensures.surface) few (gen.met.W.Weights.light c.args.weight.now) (reached (set fresh 0 0)) (spanned_tree 0 c.args.parent.now (set c.args.up.now 0 nobody) (set fresh 0 0))
           c.clear.new.self c.offer_neighbours.new.heap _ some root_reached (first_only g.nodes fresh free) zero_depth shallow (none_there (length c.args.heap.now) c.clear.new.self c.clear.ensures.empty)
           c.offer_neighbours.ensures.offered;
     }
@@ -61,7 +61,7 @@ fits gen c =
     let g = dual (cells_of c.args.network.now.mesh.now) in
     let few : g.edges ≤ nobody = omega (arith, c.law_of_surface.ensures.edges) in
     let small : g.nodes ≤ nobody = omega (arith, c.law_of_surface.ensures.faces) in
-    depth_fits g (outside c.args.network.now.marks.now) (gen.W.Weights.weight c.args.weight.now) (graph_is c.args.network.now.mesh.now c.law_of_surface.ensures.surface) few c.requires.light small 0 c.loop-face.parent c.loop-face.up c.loop-face.depth c.loop-face.heap c.in-Some.face c.in-Some.field-0-1 c.in-Some.tie
+    depth_fits g (outside c.args.network.now.marks.now) (gen.W.Weights.weight c.args.weight.now) (graph_is c.args.network.now.mesh.now c.law_of_surface.ensures.surface) few (gen.met.W.Weights.light c.args.weight.now) small 0 c.loop-face.parent c.loop-face.up c.loop-face.depth c.loop-face.heap c.in-Some.face c.in-Some.field-0-1 c.in-Some.tie
     (omega (arith, length-set {A = ℕ})) (omega (arith, length-set {A = ℕ})) (omega (arith, length-set {A = ℕ})) c.loop-face.invariant.prim c.in-Some.ensures.taken.0
 
 pub overflow_add-depth : goal.overflow_add-depth
@@ -81,7 +81,7 @@ loop-face-smaller gen c =
     let from : c.face_across-from.result ≡ (waiting gen i).before = from_is gen i c.face_across-from.result c.face_across-from.ensures.across in
     let d = at c.loop-face.depth c.face_across-from.result + 1 in
     let less : count_below g.nodes (λ v. eqb (at c.loop-face.depth v) nobody) ≡ suc (count_below g.nodes (λ v. eqb (at (set c.loop-face.depth c.in-Some.face d) v) nobody)) =
-    turn_count g (outside c.args.network.now.marks.now) (gen.W.Weights.weight c.args.weight.now) (graph_is c.args.network.now.mesh.now c.law_of_surface.ensures.surface) few c.requires.light small 0 c.loop-face.parent c.loop-face.up c.loop-face.depth c.loop-face.heap c.in-Some.face c.in-Some.field-0-1 c.in-Some.tie
+    turn_count g (outside c.args.network.now.marks.now) (gen.W.Weights.weight c.args.weight.now) (graph_is c.args.network.now.mesh.now c.law_of_surface.ensures.surface) few (gen.met.W.Weights.light c.args.weight.now) small 0 c.loop-face.parent c.loop-face.up c.loop-face.depth c.loop-face.heap c.in-Some.face c.in-Some.field-0-1 c.in-Some.tie
     (omega (arith, length-set {A = ℕ})) (omega (arith, length-set {A = ℕ})) (omega (arith, length-set {A = ℕ})) c.loop-face.invariant.prim c.in-Some.ensures.taken.0 d (ap (λ x. at c.loop-face.depth x + 1) from)
     in
     below_suc _ _ less
@@ -98,7 +98,7 @@ loop-face-preserved gen c =
     record {
       places = c.offer_neighbours-in-Some.ensures.offered.same_length ∙ (ap length c.in-Some.ensures.taken.1 ∙ (length-set c.loop-face.heap c.in-Some.face None ∙ c.loop-face.invariant.places));
       root = get_or-set_other c.loop-face.up c.in-Some.face 0 (nobody - c.in-Some.tie) 0 apart ∙ c.loop-face.invariant.root;
-      prim = turn_keeps g (outside c.args.network.now.marks.now) (gen.W.Weights.weight c.args.weight.now) (graph_is c.args.network.now.mesh.now c.law_of_surface.ensures.surface) few c.requires.light small 0 c.loop-face.parent c.loop-face.up c.loop-face.depth c.loop-face.heap c.in-Some.face c.in-Some.field-0-1 c.in-Some.tie
+      prim = turn_keeps g (outside c.args.network.now.marks.now) (gen.W.Weights.weight c.args.weight.now) (graph_is c.args.network.now.mesh.now c.law_of_surface.ensures.surface) few (gen.met.W.Weights.light c.args.weight.now) small 0 c.loop-face.parent c.loop-face.up c.loop-face.depth c.loop-face.heap c.in-Some.face c.in-Some.field-0-1 c.in-Some.tie
           (omega (arith, length-set {A = ℕ})) (omega (arith, length-set {A = ℕ})) (omega (arith, length-set {A = ℕ})) prim c.in-Some.ensures.taken.0 c.face_across-from.result (nobody - c.in-Some.tie) (at c.loop-face.depth c.face_across-from.result + 1) c.take_least.new.self c.offer_neighbours-in-Some.new.heap
           from (edge_is gen i) refl c.in-Some.ensures.taken.1 c.offer_neighbours-in-Some.ensures.offered;
     }

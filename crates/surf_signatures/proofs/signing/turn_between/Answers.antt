@@ -7,8 +7,8 @@ use Rattle.surf_signatures.proofs.signing.turn_between.Goals as goal
 use Rattle.surf_signatures.proofs.signing.turn_between.Goals.{After-deeper_first-face}
 
 -- the two faces of a step are below the number of faces
-both_in : (c : After-deeper_first-face) → (c.deeper_first-face.result.0 < (dual (cells_of c.args.mesh.now)).nodes)
-    × (c.deeper_first-face.result.1 < (dual (cells_of c.args.mesh.now)).nodes)
+both_in : (c : After-deeper_first-face) → (c.deeper_first-face.result.0 < (dual (cells_of c.args.tree.now.mesh.now)).nodes)
+    × (c.deeper_first-face.result.1 < (dual (cells_of c.args.tree.now.mesh.now)).nodes)
 both_in c =
     let inv = c.loop-near.invariant in
     elim c.deeper_first-face.ensures.both [
@@ -18,9 +18,9 @@ both_in c =
 
 pub loop-near-preserved : goal.loop-near-preserved
 loop-near-preserved c =
-    let g = dual (cells_of c.args.mesh.now) in
+    let g = dual (cells_of c.args.tree.now.mesh.now) in
     let t = face_tree c.args.tree.now.parent.now c.args.tree.now.up.now c.args.tree.now.depth.now in
-    let tree : IsTree g t = c.requires.tree in
+    let tree : IsTree g t = c.args.tree.now.spans in
     let face = c.deeper_first-face.result.0 in
     let other = c.deeper_first-face.result.1 in
     let ne : face ≢ 0 = c.deeper_first-face.ensures.below in

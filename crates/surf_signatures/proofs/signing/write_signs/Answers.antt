@@ -8,7 +8,7 @@ use Rattle.surf_signatures.proofs.signing.write_signs.Goals as goal
 
 pub loop-k-preserved : goal.loop-k-preserved
 loop-k-preserved c =
-    let g = dual (cells_of c.args.mesh.now) in
+    let g = dual (cells_of c.args.tree.now.mesh.now) in
     let t = face_tree c.args.tree.now.parent.now c.args.tree.now.up.now c.args.tree.now.depth.now in
     let k = c.loop-k.k in
     let edge = at c.args.left.now k in

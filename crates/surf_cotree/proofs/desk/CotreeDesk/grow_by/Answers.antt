@@ -44,7 +44,7 @@ start gen c =
       leaves = p.leaves;
       few = omega arith;
       by = p.by;
-      hung = hung_first (dual_of gen c) (outside c.args.in_tree.now) (gen.W.Weights.weight c.args.weight.now) c.requires.light p.leaves c.list_peeled-count.result (outside c.deref.result.now) p.peeled c.span.new.parent c.span.new.up c.span.new.depth c.span.new.heap c.span.ensures.places c.span.ensures.empty c.span.ensures.root c.span.ensures.grown;
+      hung = hung_first (dual_of gen c) (outside c.args.in_tree.now) (gen.W.Weights.weight c.args.weight.now) (gen.met.W.Weights.light c.args.weight.now) p.leaves c.list_peeled-count.result (outside c.deref.result.now) p.peeled c.span.new.parent c.span.new.up c.span.new.depth c.span.new.heap c.span.ensures.places c.span.ensures.empty c.span.ensures.root c.span.ensures.grown;
     } in
     subst (λ (x : List ℕ). IsHungBy (dual_of gen c) (outside c.args.in_tree.now) (gen.W.Weights.weight c.args.weight.now) x c.list_peeled-count.result c.deref_mut-8.result.now c.deref_mut-9.result.now c.deref_mut-7.result.now) (sym (leaves_are gen c))
     (subst (λ (x : List ℕ). IsHungBy (dual_of gen c) (outside c.args.in_tree.now) (gen.W.Weights.weight c.args.weight.now) c.list_peeled-count.new.leaves c.list_peeled-count.result x c.deref_mut-9.result.now c.deref_mut-7.result.now) (sym (parent_is gen c))

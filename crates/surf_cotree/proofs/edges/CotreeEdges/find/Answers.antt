@@ -38,6 +38,6 @@ returns gen c =
     (subst (λ (x : List Bool). c.in_ok-left.left.items ≡ filter (outside x) (range_with_len 0 (length x))) after c.in_ok-left.ensures.listed)
     in
     rw held_is (record {
-      grown = edges_grown mesh in_tree weight c.law_of_surface.ensures.surface (omega (arith, c.law_of_surface.ensures.edges)) (omega (arith, c.law_of_surface.ensures.faces)) c.requires.light c.requires.tree
+      grown = edges_grown mesh in_tree weight c.law_of_surface.ensures.surface (omega (arith, c.law_of_surface.ensures.edges)) (omega (arith, c.law_of_surface.ensures.faces)) (gen.met.W.Weights.light c.args.weight.now) c.requires.tree
           peeled marks p m held c.in_ok-left.left.items long holds listed;
     })

@@ -14,10 +14,15 @@ use Rattle.surf_loops.proofs.desk.LoopDesk.find_loops.Goals as goal
 grown_inside : (mesh : Mesh) (lengths : List ℕ) (inside given : LoopTables) → inside ≡ given → IsTreeGrown mesh lengths given.tree.base given.tree → IsTreeGrown mesh lengths given.tree.base inside.tree
 grown_inside mesh lengths inside given same = subst (λ (t : LoopTables). IsTreeGrown mesh lengths given.tree.base t.tree) (sym same)
 
-pub grow_by-requires-clause-light : goal.grow_by-requires-clause-light
-grow_by-requires-clause-light c =
+pub invariant_of-loops : goal.invariant_of-loops
+invariant_of-loops c =
     let tree = grown_inside c.args.mesh.now c.args.lengths.now _ c.args.self.now c.self.view_is c.requires.tree in
-    loop_fits c.args.mesh.now c.args.lengths.now c.self.inside.tree tree.made c.law_of_lengths.ensures.lengths tree.fits
+    record {
+      reached = tree.made.distances;
+      measured = c.requires.lengths;
+      near = tree.fits;
+      fit = loop_fits c.args.mesh.now c.args.lengths.now c.self.inside.tree tree.made c.law_of_lengths.ensures.lengths tree.fits;
+    }
 
 pub grow_by-requires-clause-tree : goal.grow_by-requires-clause-tree
 grow_by-requires-clause-tree c =

@@ -9,10 +9,15 @@ use Rattle.surf_loops.proofs.Chosen.{greedy_tables}
 use Rattle.surf_loops.proofs.Fitting.{loop_fits}
 use Rattle.surf_loops.proofs.loops.BaseLoops.find.Goals as goal
 
-pub find-requires-clause-light : goal.find-requires-clause-light
-find-requires-clause-light c =
+pub invariant_of-loops : goal.invariant_of-loops
+invariant_of-loops c =
     let tree = c.grow.ensures.grown in
-    loop_fits c.args.mesh.now c.args.lengths.now c.grow.new.self tree.made c.law_of_lengths.ensures.lengths tree.fits
+    record {
+      reached = tree.made.distances;
+      measured = c.requires.lengths;
+      near = tree.fits;
+      fit = loop_fits c.args.mesh.now c.args.lengths.now c.grow.new.self tree.made c.law_of_lengths.ensures.lengths tree.fits;
+    }
 
 pub find-requires-clause-tree : goal.find-requires-clause-tree
 find-requires-clause-tree c =
