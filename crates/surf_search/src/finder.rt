@@ -141,7 +141,7 @@ impl<'a> Finder<'a> {
         let links = Links::make(alloc, surface.mesh, surface.lengths)?;
         let tables = Tables {
             desk: NearDesk::make(alloc, surface.mesh)?,
-            ways: Ways::make(alloc, surface.mesh)?,
+            ways: Ways::make(alloc, &surface)?,
         };
         let plain = plain_edges(alloc, surface.mesh, surface.signatures)?;
         Ok(Finder {

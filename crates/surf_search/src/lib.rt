@@ -37,11 +37,13 @@
 #![tactic(auto)]
 
 mod caps;
+mod classes;
 mod costs;
 mod degrees;
 mod finder;
 mod first_loops;
 mod foremost;
+mod hashes;
 mod kept_loops;
 mod marks;
 mod pace;

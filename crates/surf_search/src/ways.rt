@@ -4,6 +4,8 @@ ghost use Rattle.surf_surfaces.specs.Surface.{edge_count};
 ghost use Rattle.surf_search.specs.Found.{plain_edges};
 ghost use Rattle.surf_search.specs.Ways.{class_at, AreWays, HasNone, HasParent, IsNumbered, IsReached};
 
+use crate::classes::Classes;
+use crate::hashes::{edge_hashes, hash_at};
 use crate::surface::SignedSurface;
 use std::alloc::Global;
 use std::marker::Model;
@@ -11,7 +13,6 @@ use surf_base::{EdgeId, NoMemory, VertexId};
 use surf_bits::Signature;
 use surf_choice::copy_signature;
 use surf_cotree::CotreeDesk;
-use surf_mesh::HalfMesh;
 use surf_near::{Links, NearDesk};
 
 /// For each vertex that a search reached the number of a class: the sum of the signatures of the
@@ -19,7 +20,8 @@ use surf_near::{Links, NearDesk};
 #[derive(Drop)]
 pub(crate) struct Ways {
     numbers: Vec<u32>,
-    classes: Vec<Signature>,
+    classes: Classes,
+    hashes: Vec<u64>,
 }
 
 impl Model for Ways {
@@ -27,66 +29,50 @@ impl Model for Ways {
 
     ghost Value = { WayTables };
 
-    ghost view = { λ w. record { numbers = w.numbers.items; classes = w.classes.items } };
+    ghost view = { λ w. record { numbers = w.numbers.items; classes = w.classes } };
 }
 
-// The number of a class, which is listed if it wasn't. Those listed last are looked at first: the
-// ways to vertices that are settled one after the other often have one class.
-fn number_of(classes: &mut Vec<Signature>, class: Signature) -> Result<u32, NoMemory>
-    requires few { length classes.old.items < 2 ^ 32 }
-    ensures number { IfOk result (λ k. (k < length classes.new.items)
-        × (slice_index classes.new.items k ≡ class)) }
-    ensures more { length classes.old.items ≤ length classes.new.items }
-    ensures one { length classes.new.items ≤ length classes.old.items + 1 }
-    ensures same { (k : ℕ) → k < length classes.old.items → slice_index classes.new.items k
-        ≡ slice_index classes.old.items k }
-{
-    for k in (0..classes.len()).rev() {
-        if classes[k].bits().is_same(&class.bits()) {
-            return Ok(k as u32);
-        }
-    }
-    let number = classes.len() as u32;
-    classes.push(class)?;
-    Ok(number)
-}
-
-// The number of the class that differs from another by the signature of an edge.
+// The number of the class that differs from another by the signature of an edge, which has a hash.
 fn number_beyond(
-    classes: &mut Vec<Signature>,
+    classes: &mut Classes,
     above: u32,
     signatures: &CotreeDesk,
     plain: &[bool],
     edge: EdgeId,
+    hash: u64,
 ) -> Result<u32, NoMemory>
-    requires above { above < length classes.old.items }
-    requires few { length classes.old.items < 2 ^ 32 }
+    requires above { above < length classes.old }
+    requires few { length classes.old < 2 ^ 32 }
     requires edge { edge < length signatures.now.signatures }
     requires plain { plain.now ≡ plain_edges signatures.now }
-    ensures number { IfOk result (λ k. (k < length classes.new.items)
-        × (slice_index classes.new.items k ≡ bit_xor (slice_index classes.old.items above)
+    ensures number { IfOk result (λ k. (k < length classes.new)
+        × (slice_index classes.new k ≡ bit_xor (slice_index classes.old above)
         (slice_index signatures.now.signatures edge))) }
-    ensures more { length classes.old.items ≤ length classes.new.items }
-    ensures one { length classes.new.items ≤ length classes.old.items + 1 }
-    ensures same { (k : ℕ) → k < length classes.old.items → slice_index classes.new.items k
-        ≡ slice_index classes.old.items k }
+    ensures more { length classes.old ≤ length classes.new }
+    ensures one { length classes.new ≤ length classes.old + 1 }
+    ensures same { (k : ℕ) → k < length classes.old → slice_index classes.new k
+        ≡ slice_index classes.old k }
 {
     if plain[edge.index()] {
         return Ok(above);
     }
-    let mut class = copy_signature(&classes[above as usize]);
+    let mut class = copy_signature(classes.class(above));
     class.add(signatures.signature(edge));
-    number_of(classes, class)
+    let sum = classes.hash(above) ^ hash;
+    classes.number_of(class, sum)
 }
 
 impl Ways {
-    /// Room for the vertices of a mesh.
-    pub fn make(alloc: Global, mesh: &HalfMesh) -> Result<Ways, NoMemory>
-        ensures made { IfOk result (λ ways. length ways.numbers ≡ mesh.now.vertices) }
+    /// Room for the vertices of a surface.
+    pub fn make(alloc: Global, surface: &SignedSurface<'_>) -> Result<Ways, NoMemory>
+        requires table { length surface.now.signatures.now.signatures
+            ≡ edge_count surface.now.mesh.now }
+        ensures made { IfOk result (λ ways. length ways.numbers ≡ surface.now.mesh.now.vertices) }
     {
         Ok(Ways {
-            numbers: vec![in alloc; 0u32; mesh.vertices() as usize]?,
-            classes: Vec::new(alloc),
+            numbers: vec![in alloc; 0u32; surface.mesh.vertices() as usize]?,
+            classes: Classes::make(alloc)?,
+            hashes: edge_hashes(alloc, surface)?,
         })
     }
 
@@ -115,7 +101,9 @@ impl Ways {
         let mut number = 0;
         if v != base {
             let above = self.numbers[desk.parent(v).index()];
-            number = number_beyond(&mut self.classes, above, signatures, plain, desk.up(v))?;
+            let up = desk.up(v);
+            let hash = hash_at(&self.hashes, up);
+            number = number_beyond(&mut self.classes, above, signatures, plain, up, hash)?;
         }
         self.numbers[v.index()] = number;
         Ok(())
@@ -143,8 +131,7 @@ impl Ways {
     {
         surface.mesh.law_of_surface();
         links.law_of_links();
-        self.classes.clear();
-        self.classes.push(Signature::zero())?;
+        self.classes.begin()?;
         for v in desk.settled() {
             self.number(desk, surface.signatures, plain, base, *v)?;
         }
@@ -157,7 +144,7 @@ impl Ways {
         requires number { slice_index self.now.numbers v < length self.now.classes }
         ensures class { result.now ≡ class_at self.now v }
     {
-        &self.classes[self.numbers[v.index()] as usize]
+        self.classes.class(self.numbers[v.index()])
     }
 
     /// Whether two ways have one class. A no may also mean that this wasn't found out.
