@@ -1,6 +1,5 @@
 -- The trees of a loop desk, and what is opened along the cut that they give.
-use Rattle.surf_surfaces.proofs.Common.{◌≡◌, ℕ, ◌<◌, List, [], length, get_or, refl, sym, ap, ◌∙◌, subst, All, length-map, get_or-map, get_or_default, Mesh, IsFace, face_at, IsSurface}
-use Rattle.std.proofs.lemmas.List.Elements.{All-get_or, All-from_get_or}
+use Rattle.surf_surfaces.proofs.Common.{◌≡◌, ℕ, ◌<◌, List, [], length, get_or, refl, sym, ap, ◌∙◌, subst, All, length-map, get_or-map, get_or_default, Mesh, IsFace, face_at, IsSurface, All-get_or, All-from_get_or}
 use Rattle.surf_opening.specs.Opening.{IsOpenedBy}
 use Rattle.surf_opening.specs.ChosenCut.{AreDivided}
 use Rattle.surf_tree.specs.Tables.{tree_of}

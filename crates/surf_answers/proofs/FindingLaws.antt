@@ -1,6 +1,5 @@
 -- What is found of the cycles of a surface, as answers.
-use Rattle.surf_surfaces.proofs.Common.{◌≡◌, ℕ, List, length, Option, Some, None, inl, inr, refl, subst, IfSome, ◌↔◌, Mesh, IsSurface, edge_count, Trees, AreChosen, Loop, candidates, IsChosenBasis, ArePositive}
-use Rattle.surf_surfaces.specs.ChoiceLaws.{LeastSimpleBasis}
+use Rattle.surf_surfaces.proofs.Common.{◌≡◌, ℕ, List, length, Option, Some, None, inl, inr, refl, subst, IfSome, ◌↔◌, Mesh, IsSurface, edge_count, Trees, AreChosen, Loop, candidates, IsChosenBasis, ArePositive, LeastSimpleBasis}
 use Rattle.surf_surfaces.proofs.bases.ChoiceExists.{choice_exists}
 use Rattle.surf_surfaces.proofs.walks.ShortestWalkLaws.{first_of_basis_is_shortest_not_null, shortest_not_null_is_nonseparating}
 use Rattle.surf_lengths.specs.Lengths.{AreLengths}

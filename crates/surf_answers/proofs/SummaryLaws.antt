@@ -1,6 +1,5 @@
 -- What is found on a surface, as an answer.
-use Rattle.surf_surfaces.proofs.Common.{◌≡◌, ℕ, List, length, Some, inl, inr, sym, ap, Mesh, IsSurface, edge_count, Trees, AreChosen, Loop, candidates}
-use Rattle.surf_surfaces.specs.ChoiceLaws.{LeastSimpleBasis}
+use Rattle.surf_surfaces.proofs.Common.{◌≡◌, ℕ, List, length, Some, inl, inr, sym, ap, Mesh, IsSurface, edge_count, Trees, AreChosen, Loop, candidates, LeastSimpleBasis}
 use Rattle.surf_surfaces.proofs.bases.ChoiceExists.{choice_exists}
 use Rattle.surf_lengths.specs.Lengths.{AreLengths}
 use Rattle.surf_lengths.proofs.Positive.{lengths_positive}

@@ -1,6 +1,5 @@
 -- The loops that a search finds at a base, and those of them that are chosen.
-use Rattle.surf_surfaces.proofs.Common.{◌≡◌, ℕ, ◌+◌, ◌^◌, ◌<◌, ◌≤◌, ◌++◌, Bool, true, false, not, cond, List, [], ◌∷◌, length, get_or, map, filter, take, All, Contains, IsPermutation, Some, ◌⊎◌, refl, sym, ap, ◌∙◌, subst, arith, inl, inr, IsTrue, ◌==◌, AllByRecursion, cases_Bool, false≢true, le-leb, or_cases, eqb-true, nat_tests, length-map, get_or-map, take_more, map-append, merge, all_filtered, Split, IsSplit, Tree, Mesh, edge_count, IsSurface, ArePositive, IsNull, cells_of, class_of, AreShortestTrees, loop_walk, loop_length, is_left, Trees, AreChosen, Loop, comes_before, loop_at, loops_at, place_at, comes_sooner, least_base}
-use Rattle.std.specs.List.Sorted.{IsNonDecreasingBy}
+use Rattle.surf_surfaces.proofs.Common.{◌≡◌, ℕ, ◌+◌, ◌^◌, ◌<◌, ◌≤◌, ◌++◌, Bool, true, false, not, cond, List, [], ◌∷◌, length, get_or, map, filter, take, All, Contains, IsPermutation, Some, ◌⊎◌, refl, sym, ap, ◌∙◌, subst, arith, inl, inr, IsTrue, ◌==◌, AllByRecursion, cases_Bool, false≢true, le-leb, or_cases, eqb-true, nat_tests, length-map, get_or-map, take_more, map-append, merge, all_filtered, Split, IsSplit, Tree, Mesh, edge_count, IsSurface, ArePositive, IsNull, cells_of, class_of, AreShortestTrees, loop_walk, loop_length, is_left, Trees, AreChosen, Loop, comes_before, loop_at, loops_at, place_at, comes_sooner, least_base, IsNonDecreasingBy}
 use Rattle.std.proofs.lemmas.List.Elements.{recursion_from_All, All-from_recursion, All-contains, Contains-get_or, filter_more}
 use Rattle.std.proofs.lemmas.List.Sorted.{Contains-permutation, All-permutation, IsPermutation-refl}
 use Rattle.surf_surfaces.proofs.bases.CoveredLaws.{contains-map}

@@ -1,10 +1,7 @@
 -- What is kept base by base is the basis that is chosen.
-use Rattle.surf_surfaces.proofs.Common.{◌≡◌, ℕ, suc, ◌<◌, ◌≤◌, ◌-◌, Bool, true, false, cond, List, [], ◌∷◌, ◌++◌, ◌+◌, length, filter, get_or, take, All, refl, sym, ap, ◌∙◌, subst, arith, inl, inr, slice_index, AllByRecursion, cases_lt, take_more, take_all, recursion_from_All, numbers, is_nothing, order_from_sorted, Decides-is_nothing, Split, IsSplit, Mesh, IsSurface, ArePositive, cells_of, class_of, Trees, AreChosen, Loop, comes_before, loops_at, candidates, IsChosenBasis}
-use Rattle.surf_z2.specs.Greedy.{greedy, greedy_after, spans}
+use Rattle.surf_surfaces.proofs.Common.{◌≡◌, ℕ, suc, ◌<◌, ◌≤◌, ◌-◌, Bool, true, false, cond, List, [], ◌∷◌, ◌++◌, ◌+◌, length, filter, get_or, take, All, refl, sym, ap, ◌∙◌, subst, arith, inl, inr, slice_index, AllByRecursion, cases_lt, take_more, take_all, recursion_from_All, numbers, is_nothing, order_from_sorted, Decides-is_nothing, Split, IsSplit, Mesh, IsSurface, ArePositive, cells_of, class_of, Trees, AreChosen, Loop, comes_before, loops_at, candidates, IsChosenBasis, greedy, greedy_after, spans, two_step_law, AreBases}
 use Rattle.surf_z2.specs.Order.{merge, merge_from}
-use Rattle.surf_z2.proofs.Greedy.{two_step_law}
 use Rattle.surf_z2.proofs.Passing.{greedy_filtered}
-use Rattle.surf_surfaces.specs.FewBases.{AreBases}
 use Rattle.surf_surfaces.proofs.classes.LeastLaws.{all_each}
 use Rattle.surf_surfaces.proofs.bases.GreedyChoiceLaws.{greedy_is_choice}
 use Rattle.surf_surfaces.proofs.bases.CoveredLaws.{below_closed}

@@ -1,7 +1,6 @@
 -- The first cycle of a basis that is chosen is the first candidate.
-use Rattle.surf_surfaces.proofs.Common.{◌≡◌, ℕ, Bool, true, false, List, [], ◌∷◌, Some, refl, sym, ap, ◌∙◌, subst, arith, option_map, chosen, xor-false, Mesh, IsSurface, parity, ArePositive}
+use Rattle.surf_surfaces.proofs.Common.{◌≡◌, ℕ, Bool, true, false, List, [], ◌∷◌, Some, refl, sym, ap, ◌∙◌, subst, arith, option_map, chosen, xor-false, Mesh, IsSurface, parity, ArePositive, IsBoundary, IsNull, total_parity}
 use Rattle.std.specs.Prelude.{MatchBool, slice_index_or}
-use Rattle.surf_surfaces.specs.Homology.{IsBoundary, IsNull, total_parity}
 use Rattle.surf_surfaces.specs.Choice.{Trees, AreChosen, Loop, candidates, DependsOn, DependsAt, IsGreedyChoice}
 use Rattle.surf_surfaces.proofs.walks.CycleLaws.{null_cycles_separate}
 use Rattle.surf_surfaces.proofs.bases.FirstCycleLaws.{first_is_shortest}

@@ -1,6 +1,5 @@
 -- The loops of a desk at a base, as loops of the choice.
-use Rattle.surf_surfaces.proofs.Common.{◌≡◌, ℕ, ◌<◌, ◌+◌, true, List, [], ◌∷◌, length, map, Contains, refl, sym, ap, ◌∙◌, subst, arith, AllByRecursion, length-map, get_or-map, All-from_recursion, All-contains, Contains-permutation, Mesh, edge_count, face_count, IsSurface, ArePositive, IsLoopCount, loop_walk, Trees, AreChosenAt, AreChosen, Loop, comes_before, loop_at, loops_at, candidates, IsGreedyChoice, IsChosenBasis}
-use Rattle.surf_z2.proofs.Merge.{sorted-permutes}
+use Rattle.surf_surfaces.proofs.Common.{◌≡◌, ℕ, ◌<◌, ◌+◌, true, List, [], ◌∷◌, length, map, Contains, refl, sym, ap, ◌∙◌, subst, arith, AllByRecursion, length-map, get_or-map, All-from_recursion, All-contains, Contains-permutation, Mesh, edge_count, face_count, IsSurface, ArePositive, IsLoopCount, loop_walk, Trees, AreChosenAt, AreChosen, Loop, comes_before, loop_at, loops_at, candidates, IsGreedyChoice, IsChosenBasis, sorted-permutes}
 use Rattle.surf_surfaces.specs.Cotree.{is_left, left_edges}
 use Rattle.surf_surfaces.proofs.classes.CotreeLaws.{passing_found}
 use Rattle.surf_surfaces.proofs.bases.LoopsAtLaws.{IsLoopAt, loops_each}

@@ -1,6 +1,5 @@
 -- Vertices that are marked on the ways up a tree, and the list of them.
-use Rattle.surf_surfaces.proofs.Common.{◌≡◌, ◌≢◌, ℕ, ◌<◌, ◌≤◌, ◌+◌, ◌⊎◌, not, Bool, true, false, List, length, get_or, set, slice_index, Contains, refl, sym, ap, ◌∙◌, subst, arith, inl, inr, Option, Some, None, IsTrue, Tree, Mesh, edge_count, ends}
-use Rattle.std.proofs.lemmas.Bool.{cases_lt, cases_eq, and_parts, and_from, not-true, not_from_false, false≢true}
+use Rattle.surf_surfaces.proofs.Common.{◌≡◌, ◌≢◌, ℕ, ◌<◌, ◌≤◌, ◌+◌, ◌⊎◌, not, Bool, true, false, List, length, get_or, set, slice_index, Contains, refl, sym, ap, ◌∙◌, subst, arith, inl, inr, Option, Some, None, IsTrue, Tree, Mesh, edge_count, ends, cases_lt, cases_eq, and_parts, and_from, not-true, not_from_false, false≢true}
 use Rattle.std.proofs.lemmas.List.{get_or_default, get_or_past, get_or-set_other}
 use Rattle.surf_surfaces.specs.Cotree.{tree_edges, cotree_edges, is_left, left_edges}
 use Rattle.surf_opening.specs.OffTheCut.{HasMarkedEnds}

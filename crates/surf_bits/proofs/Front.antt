@@ -1,7 +1,6 @@
 -- Sums of words where one table is shorter, and the first words of a table.
-use Rattle.std.proofs.Common.{ℕ, suc, ◌≡◌, ◌+◌, ◌*◌, ◌<◌, ◌≤◌, ◌^◌, List, [], ◌∷◌, length, get_or, bit_xor, refl, sym, ap, ◌∙◌, arith}
+use Rattle.surf_z2.proofs.Common.{ℕ, suc, ◌≡◌, ◌+◌, ◌*◌, ◌<◌, ◌≤◌, ◌^◌, List, [], ◌∷◌, length, get_or, bit_xor, refl, sym, ap, ◌∙◌, arith, number}
 use Rattle.std.specs.Int.Bits.{xor_block, xor_zero_r}
-use Rattle.surf_z2.specs.Words.{number}
 
 -- a table to whose first words those of another are added
 pub number_front : (us vs ws : List ℕ) → length vs ≤ length us → length ws ≡ length us → ((k : ℕ) → get_or us k 0 < 2 ^ 64) → ((k : ℕ) → get_or vs k 0 < 2 ^ 64) →

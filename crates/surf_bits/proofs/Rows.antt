@@ -1,17 +1,12 @@
 -- The rows of a sieve.
 use Rattle.std.proofs.Common.{ℕ, zero, suc, ◌≡◌, ◌+◌, ◌*◌, ◌/◌, ◌<◌, ◌≤◌, ◌^◌, Option, Some, None, is_some, not, Bool, true, false, cond, lit<, MatchOption, MatchBool, List, [], ◌∷◌, ◌++◌, length, take, drop, get_or, bit_xor, IsTrue, min, inl, inr, refl, sym, ap, ◌∙◌, subst, arith, ◌↔◌}
-use Rattle.std.specs.Int.{bit_at}
-use Rattle.std.proofs.lemmas.Bool.{eqb-true}
+use Rattle.surf_z2.proofs.Common.{bit_at, eqb-true, bit_at-zero, cases_lt, numbers, Spanned, number}
 use Rattle.std.proofs.lemmas.Nat.{xor_lt, pow_pos}
-use Rattle.std.proofs.lemmas.Nat.Bits.{bit_at-zero}
 use Rattle.std.proofs.Math.Nat.{pow-le-pow_right, mul-le-mul_right}
-use Rattle.std.proofs.lemmas.Bool.{cases_lt}
 use Rattle.std.proofs.Math.Pow.{pow-add}
 use Rattle.std.proofs.lemmas.List.{map-append, get_or-drop, length-drop, length-append, take-append-le, drop-append-le, length-take, length-take-le, take_all, drop-drop, at_drop_more}
 use Rattle.std.proofs.lemmas.List.Elements.{All-push}
-use Rattle.surf_z2.specs.Space.{numbers, Spanned}
 use Rattle.surf_z2.specs.Sieve.{has, Row, SieveLaw}
-use Rattle.surf_z2.specs.Words.{number}
 use Rattle.surf_z2.proofs.Numbers.{has-xor}
 use Rattle.surf_z2.proofs.Sieve.{sieve_law}
 use Rattle.surf_z2.proofs.Basics.{independence_law}

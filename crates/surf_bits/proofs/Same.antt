@@ -1,6 +1,5 @@
 -- Words that write one number.
-use Rattle.std.proofs.Common.{ℕ, zero, suc, ◌≡◌, ◌+◌, ◌*◌, ◌<◌, ◌^◌, List, [], ◌∷◌, get_or, refl, arith}
-use Rattle.surf_z2.specs.Words.{number}
+use Rattle.surf_z2.proofs.Common.{ℕ, zero, suc, ◌≡◌, ◌+◌, ◌*◌, ◌<◌, ◌^◌, List, [], ◌∷◌, get_or, refl, arith, number}
 
 -- the same words, where those that aren't there are zero
 pub same_words : (us vs : List ℕ) → ((k : ℕ) → get_or us k 0 ≡ get_or vs k 0) → number us ≡ number vs

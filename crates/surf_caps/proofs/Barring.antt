@@ -1,14 +1,8 @@
 -- Searches that bar vertices which were searched as far.
-use Rattle.surf_surfaces.proofs.Common.{◌≡◌, ℕ, suc, ◌+◌, ◌*◌, ◌<◌, ◌≤◌, Bool, true, false, ◌&&◌, ◌||◌, leb, List, ◌∷◌, ◌++◌, map, filter, All, Contains, bit_xor, sym, ap, ◌∙◌, subst, arith, inl, inr, AllByRecursion, or_cases, and_parts, leb-true, nat_tests, map-map, All-from_recursion, All-contains, numbers, difference, Spanned, xor_comm, InSpan, add_in, in_from_spanned, primal, Split, IsSplit, IsGraphWalk, walk_chain, graph_walk_length, signature_of, Tree, loop, Mesh, edge_count, IsSurface, edge_length, ArePositive, cells_of, class_of, AreShortestTrees, loop_walk, loop_length}
-use Rattle.surf_z2.proofs.Linear.{over_in}
-use Rattle.surf_z2.proofs.Ranks.{in_wider}
-use Rattle.surf_z2.proofs.Passing.{some_or_none}
-use Rattle.surf_graphs.proofs.Graphs.{walk-append}
+use Rattle.surf_surfaces.proofs.Common.{◌≡◌, ℕ, suc, ◌+◌, ◌*◌, ◌<◌, ◌≤◌, Bool, true, false, ◌&&◌, ◌||◌, leb, List, ◌∷◌, ◌++◌, map, filter, All, Contains, bit_xor, sym, ap, ◌∙◌, subst, arith, inl, inr, AllByRecursion, or_cases, and_parts, leb-true, nat_tests, map-map, All-from_recursion, All-contains, numbers, difference, Spanned, xor_comm, InSpan, add_in, in_from_spanned, primal, Split, IsSplit, IsGraphWalk, walk_chain, graph_walk_length, signature_of, Tree, loop, Mesh, edge_count, IsSurface, edge_length, ArePositive, cells_of, class_of, AreShortestTrees, loop_walk, loop_length, over_in, in_wider, some_or_none, walk-append, walk_parts, Place, place_at, least_base, Found, is_within, walks_found, DependsAtPlace}
 use Rattle.surf_graphs.proofs.Lengths.{loop_bound}
-use Rattle.surf_graphs.proofs.Through.{walk_parts}
 use Rattle.surf_graphs.proofs.Independence.{signature_of-same, signature_of-linear, walk_sums}
 use Rattle.surf_graphs.proofs.Walks.{walk_in, same_off}
-use Rattle.surf_surfaces.specs.FewBases.{Place, place_at, least_base, Found, is_within, walks_found, DependsAtPlace}
 use Rattle.surf_surfaces.proofs.meshes.CellLaws.{surfaces_are_cells}
 use Rattle.surf_surfaces.proofs.classes.ClassLaws.{some_split}
 use Rattle.surf_surfaces.proofs.bases.FewBasesLaws.{no_later_from, least_base_on_way, loop_class}

@@ -1,12 +1,7 @@
 -- What the loops that were found span, where each vertex is searched up to places of its own.
-use Rattle.surf_surfaces.proofs.Common.{◌≡◌, ℕ, zero, suc, ◌<◌, ◌≤◌, Bool, true, leb, ltb, List, [], ◌∷◌, map, filter, All, Contains, bit_xor, sym, ap, ◌∙◌, subst, arith, inl, inr, AllByRecursion, cases_Bool, leb-true, lt-ltb, ltb-true, recursion_from_All, All-contains, numbers, is_nothing, difference, Decides-is_nothing, InSpan, AllInSpan, add_in, trans_in, in_from_spanned, primal, Split, IsSplit, Graph, IsGraphWalk, walk_chain, graph_walk_length, edge_between, signature_of, Tree, loop, edge_between_is, signature_of-same, signature_of-linear, Mesh, edge_count, IsSurface, tail, first, IsClosed, edge_length, parity, walk_length, ArePositive, cells_of, class_of, AreShortestTrees, loop_walk, loop_length, Trees, AreChosen, Loop, candidates, DependsOn}
-use Rattle.surf_z2.specs.Greedy.{spans}
+use Rattle.surf_surfaces.proofs.Common.{◌≡◌, ℕ, zero, suc, ◌<◌, ◌≤◌, Bool, true, leb, ltb, List, [], ◌∷◌, map, filter, All, Contains, bit_xor, sym, ap, ◌∙◌, subst, arith, inl, inr, AllByRecursion, cases_Bool, leb-true, lt-ltb, ltb-true, recursion_from_All, All-contains, numbers, is_nothing, difference, Decides-is_nothing, InSpan, AllInSpan, add_in, trans_in, in_from_spanned, primal, Split, IsSplit, Graph, IsGraphWalk, walk_chain, graph_walk_length, edge_between, signature_of, Tree, loop, edge_between_is, signature_of-same, signature_of-linear, Mesh, edge_count, IsSurface, tail, first, IsClosed, edge_length, parity, walk_length, ArePositive, cells_of, class_of, AreShortestTrees, loop_walk, loop_length, Trees, AreChosen, Loop, candidates, DependsOn, spans, up_to_weighed, all_passing, in_wider, least_base, Place, is_no_later, place_at, Found, place_of_found, place_of_loop, is_within, walks_within, DependsAtPlace}
 use Rattle.surf_z2.proofs.Greedy.{in_from_spans, not_in_from_spans}
-use Rattle.surf_z2.proofs.Least.{up_to_weighed}
-use Rattle.surf_z2.proofs.Passing.{all_passing}
-use Rattle.surf_z2.proofs.Ranks.{in_wider}
 use Rattle.surf_graphs.proofs.Through.{two_parts}
-use Rattle.surf_surfaces.specs.FewBases.{least_base, Place, is_no_later, place_at, Found, place_of_found, place_of_loop, is_within, walks_within, DependsAtPlace}
 use Rattle.surf_surfaces.proofs.bases.CoveredLaws.{walk_covered}
 use Rattle.surf_surfaces.proofs.bases.CandidateLaws.{IsLoopBelow, below_each}
 use Rattle.surf_surfaces.proofs.meshes.CellLaws.{surfaces_are_cells}

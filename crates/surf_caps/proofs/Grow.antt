@@ -1,10 +1,6 @@
 -- How the loops that are enough are found.
 use Rattle.std.proofs.Common.{◌≡◌, ℕ, ◌<◌, Bool, true, false, ◌&&◌, eqb, List, [], ◌∷◌, ◌++◌, map, filter, get_or, All, Contains, sym, ap, ◌∙◌, subst, arith, inl, inr, eqb-true}
-use Rattle.surf_surfaces.proofs.Common.{AllByRecursion, cases_eq, cases_Bool, or_cases, and_parts, leb-true, false≢true, map-map, Contains-permutation, All-permutation, greedy, numbers, is_nothing, Independent, Sorted, sorted_from_order, order_from_sorted, Decides-is_nothing, InSpan, zero_in, trans_in, Split, IsSplit, Tree, Mesh, edge_count, IsSurface, IsClosed, ArePositive, IsIndependent, cells_of, class_of, AreShortestTrees, loop_walk, loop_length, DependsOn}
-use Rattle.std.proofs.lemmas.List.Elements.{recursion_from_All, All-from_recursion, All-append, Contains-append_left, Contains-append_right, Contains-get_or}
-use Rattle.surf_z2.proofs.Greedy.{greedy_law, all_kept}
-use Rattle.surf_z2.proofs.Passing.{member_in, all_passing, all_greedy, sorted_greedy, ArePassingFirst, filter_of_greedy}
-use Rattle.surf_surfaces.specs.FewBases.{Place, is_no_later, place_at, Found, place_of_found, is_within, walks_found, walks_within, IsFoundAt, IsFoundLoop, DependsAtPlace, comes_no_later, IsFoundChoice, AreFoundAt}
+use Rattle.surf_surfaces.proofs.Common.{AllByRecursion, cases_eq, cases_Bool, or_cases, and_parts, leb-true, false≢true, map-map, Contains-permutation, All-permutation, greedy, numbers, is_nothing, Independent, Sorted, sorted_from_order, order_from_sorted, Decides-is_nothing, InSpan, zero_in, trans_in, Split, IsSplit, Tree, Mesh, edge_count, IsSurface, IsClosed, ArePositive, IsIndependent, cells_of, class_of, AreShortestTrees, loop_walk, loop_length, DependsOn, recursion_from_All, All-from_recursion, All-append, Contains-append_left, Contains-append_right, Contains-get_or, greedy_law, all_kept, member_in, all_passing, all_greedy, sorted_greedy, ArePassingFirst, filter_of_greedy, Place, is_no_later, place_at, Found, place_of_found, is_within, walks_found, walks_within, IsFoundAt, IsFoundLoop, DependsAtPlace, comes_no_later, IsFoundChoice, AreFoundAt}
 use Rattle.surf_surfaces.proofs.classes.ClassLaws.{some_split, null_by_class, independent_by_classes}
 use Rattle.surf_surfaces.proofs.bases.FewBasesLaws.{no_later-trans, no_later-same}
 use Rattle.surf_surfaces.proofs.bases.FirstFoundLaws.{loop_closed}

@@ -1,10 +1,6 @@
 -- Edges whose signatures need more than some closed walks, and where they are.
-use Rattle.surf_surfaces.proofs.Common.{◌≡◌, ℕ, zero, suc, ◌<◌, ◌≤◌, Bool, true, false, ◌&&◌, eqb, List, [], ◌∷◌, length, map, take, get_or, All, Contains, Option, Some, None, refl, sym, ap, ◌∙◌, subst, arith, inl, inr, ◌⊎◌, AllByRecursion, All-from_recursion, any_below, same_from, InSpan, zero_in, in_from_spanned, spanned_from_in, primal, Split, IsSplit, signature, chain_signature, signature_of, signature_of-same, signature_of-linear, Mesh, edge_count, ends, IsSurface, IsClosed, walk_length, parity, cells_of, class_of, edge_signature}
-use Rattle.std.specs.List.Sorted.{IsNonDecreasing}
-use Rattle.std.proofs.lemmas.Bool.{cases_Bool, cases_lt, and_parts, and_from, false≢true, ltb-true, ltb-false, le-leb}
-use Rattle.surf_z2.specs.Space.{numbers, chains}
+use Rattle.surf_surfaces.proofs.Common.{◌≡◌, ℕ, zero, suc, ◌<◌, ◌≤◌, Bool, true, false, ◌&&◌, eqb, List, [], ◌∷◌, length, map, take, get_or, All, Contains, Option, Some, None, refl, sym, ap, ◌∙◌, subst, arith, inl, inr, ◌⊎◌, AllByRecursion, All-from_recursion, any_below, same_from, InSpan, zero_in, in_from_spanned, spanned_from_in, primal, Split, IsSplit, signature, chain_signature, signature_of, signature_of-same, signature_of-linear, Mesh, edge_count, ends, IsSurface, IsClosed, walk_length, parity, cells_of, class_of, edge_signature, IsNonDecreasing, cases_Bool, cases_lt, and_parts, and_from, false≢true, ltb-true, ltb-false, le-leb, numbers, chains, and_comm, eqb_comm, odd_below-same, odd_below-one, any_below-found, any_below-none}
 use Rattle.surf_z2.proofs.Linear.{sum_over, over_in, linear-sum_over, sum_over-at}
-use Rattle.surf_z2.proofs.ParityLaws.{and_comm, eqb_comm, odd_below-same, odd_below-one, any_below-found, any_below-none}
 use Rattle.surf_graphs.proofs.Walks.{walk_has_ends}
 use Rattle.surf_surfaces.proofs.walks.GraphWalkLaws.{graph_walk}
 use Rattle.surf_surfaces.proofs.bases.GreedyChoiceLaws.{depends_from_spanned}

@@ -1,18 +1,9 @@
 -- Stages, and signatures up to the sums of what is final.
 use Rattle.std.proofs.Common.{◌≡◌, ℕ, zero, suc, ◌+◌, ◌<◌, ◌≤◌, Bool, true, ◌&&◌, not, eqb, List, [], ◌∷◌, ◌++◌, length, map, take, get_or, IsPermutation, bit_xor, Option, Some, None, Decides, refl, sym, ap, ◌∙◌, subst, arith, ne_eqb, inl, inr}
-use Rattle.surf_surfaces.proofs.Common.{AllByRecursion, map-map, any_below, Decides-is_nothing, any_below-found, any_below-none, xor-false, Sorted, sorted_from_order, order_from_sorted, edge_count, IsClosed, walk_length, parity, loop_walk, class_of, edge_signature}
-use Rattle.std.proofs.lemmas.Bool.{cases_eq, cases_Bool, and_parts, and_from, or_left, or_right, false≢true, not-true, not_from_false, eqb-false, ltb-true, lt-ltb, leb-false}
+use Rattle.surf_surfaces.proofs.Common.{AllByRecursion, map-map, any_below, Decides-is_nothing, any_below-found, any_below-none, xor-false, Sorted, sorted_from_order, order_from_sorted, edge_count, IsClosed, walk_length, parity, loop_walk, class_of, edge_signature, cases_eq, cases_Bool, and_parts, and_from, or_left, or_right, false≢true, not-true, not_from_false, eqb-false, ltb-true, lt-ltb, leb-false, recursion_from_All, All-from_recursion, All-append, Contains-append_left, Contains-append_right, Contains-get_or, xor_self, greedy, greedy_after, Space, numbers, is_nothing, Independent, Spanned, not_spans, member_in, InSpan, AllInSpan, trans_in, rest_in, Free, in_from_spanned, spanned_from_in, free_from_independent, place_at, Found, is_within, walks_found, comes_no_later, IsFoundChoice}
 use Rattle.std.proofs.lemmas.List.{append_assoc, map-append, length-append}
-use Rattle.std.proofs.lemmas.List.Elements.{recursion_from_All, All-from_recursion, All-append, Contains-append_left, Contains-append_right, Contains-get_or}
 use Rattle.std.proofs.lemmas.List.Sorted.{All-permutation, IsPermutation-append_right}
-use Rattle.std.specs.Int.Bits.{xor_self}
-use Rattle.surf_z2.specs.Greedy.{greedy, greedy_after}
-use Rattle.surf_z2.specs.Space.{Space, numbers, is_nothing, Independent, Spanned}
-use Rattle.surf_z2.proofs.Greedy.{not_spans}
-use Rattle.surf_z2.proofs.Passing.{member_in}
-use Rattle.surf_z2.proofs.Span.{InSpan, AllInSpan, trans_in, rest_in, Free, in_from_spanned, spanned_from_in, free_from_independent}
 use Rattle.surf_surfaces.proofs.bases.FirstFoundLaws.{loop_closed}
-use Rattle.surf_surfaces.specs.FewBases.{place_at, Found, is_within, walks_found, comes_no_later, IsFoundChoice}
 use Rattle.surf_surfaces.proofs.classes.ClassLaws.{independent_by_classes}
 use Rattle.surf_surfaces.proofs.bases.FoundLaws.{greedy_is_found_choice}
 use Rattle.surf_surfaces.proofs.bases.GreedyChoiceLaws.{depends_from_spanned}

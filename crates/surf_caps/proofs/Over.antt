@@ -1,8 +1,5 @@
 -- Closed walks over a vertex where their places are sought.
-use Rattle.surf_surfaces.proofs.Common.{◌≡◌, ℕ, ◌<◌, ◌≤◌, true, List, ◌∷◌, map, filter, Contains, sym, subst, arith, AllByRecursion, map-map, numbers, Spanned, all_filtered, InSpan, in_from_spanned, spanned_from_in, primal, Split, IsSplit, IsGraphWalk, walk_chain, graph_walk_length, signature_of, Tree, Mesh, edge_count, IsSurface, IsClosed, edge_length, ArePositive, cells_of, class_of, AreShortestTrees, loop_walk, loop_length, DependsOn}
-use Rattle.surf_z2.proofs.Ranks.{in_wider}
-use Rattle.surf_graphs.proofs.Through.{over_spanned}
-use Rattle.surf_surfaces.specs.FewBases.{least_base, Place, is_no_later, place_at, Found, is_within, walks_within}
+use Rattle.surf_surfaces.proofs.Common.{◌≡◌, ℕ, ◌<◌, ◌≤◌, true, List, ◌∷◌, map, filter, Contains, sym, subst, arith, AllByRecursion, map-map, numbers, Spanned, all_filtered, InSpan, in_from_spanned, spanned_from_in, primal, Split, IsSplit, IsGraphWalk, walk_chain, graph_walk_length, signature_of, Tree, Mesh, edge_count, IsSurface, IsClosed, edge_length, ArePositive, cells_of, class_of, AreShortestTrees, loop_walk, loop_length, DependsOn, in_wider, over_spanned, least_base, Place, is_no_later, place_at, Found, is_within, walks_within}
 use Rattle.surf_surfaces.proofs.meshes.CellLaws.{surfaces_are_cells}
 use Rattle.surf_surfaces.proofs.bases.FewBasesLaws.{no_later_from, no_later-trans, least_base_no_greater, loop_class}
 use Rattle.surf_surfaces.proofs.bases.GreedyChoiceLaws.{spanned_from_depends, depends_from_spanned}

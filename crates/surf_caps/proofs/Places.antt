@@ -1,12 +1,9 @@
 -- Loops that are enough have the places of the basis.
 use Rattle.std.proofs.Common.{◌≡◌, ℕ, suc, ◌<◌, ◌≤◌, Bool, true, false, cond, ◌&&◌, not, eqb, leb, ltb, List, [], ◌∷◌, length, map, filter, take, get_or, All, Contains, refl, sym, ap, ◌∙◌, subst, arith, inl, inr, eqb-true}
-use Rattle.surf_surfaces.proofs.Common.{AllByRecursion, cases_Bool, and_parts, and_from, false≢true, nat_tests, map-map, length-map, recursion_from_All, All-from_recursion, greedy, numbers, is_nothing, Independent, Spanned, Sorted, sorted_from_order, Decides-is_nothing, Split, IsSplit, Tree, Mesh, IsSurface, IsClosed, walk_length, ArePositive, IsIndependent, IsLoopCount, cells_of, class_of, AreShortestTrees, loop_walk, Trees, AreChosen, Loop, comes_before, walks, candidates, IsChosenBasis}
+use Rattle.surf_surfaces.proofs.Common.{AllByRecursion, cases_Bool, and_parts, and_from, false≢true, nat_tests, map-map, length-map, recursion_from_All, All-from_recursion, greedy, numbers, is_nothing, Independent, Spanned, Sorted, sorted_from_order, Decides-is_nothing, Split, IsSplit, Tree, Mesh, IsSurface, IsClosed, walk_length, ArePositive, IsIndependent, IsLoopCount, cells_of, class_of, AreShortestTrees, loop_walk, Trees, AreChosen, Loop, comes_before, walks, candidates, IsChosenBasis, up_to_weighed, InSpan, AllInSpan, Free, count, trans_in, in_from_spanned, spanned_from_in, free_from_independent, Place, is_no_later, Found, place_of_found, place_of_loop, is_within, IsWithin, walks_found, HasFound, comes_no_later, comes_sooner, every_place}
 use Rattle.surf_z2.proofs.Greedy.{greedy_law, basis_law, all_kept}
-use Rattle.surf_z2.proofs.Least.{up_to_weighed}
 use Rattle.surf_z2.proofs.Passing.{some_or_none, filter_all, ArePassingFirst, all_passing, all_greedy, sorted_greedy, filter_of_greedy, passing_before, sorted_filtered}
 use Rattle.surf_z2.proofs.Ranks.{in_wider, in_whole, free_filter}
-use Rattle.surf_z2.proofs.Span.{InSpan, AllInSpan, Free, count, trans_in, in_from_spanned, spanned_from_in, free_from_independent}
-use Rattle.surf_surfaces.specs.FewBases.{Place, is_no_later, Found, place_of_found, place_of_loop, is_within, IsWithin, walks_found, HasFound, comes_no_later, comes_sooner, every_place}
 use Rattle.surf_surfaces.proofs.bases.CoveredLaws.{runs, walk_covered}
 use Rattle.surf_surfaces.proofs.bases.BasisLaws.{basis_is, basis_of, basis_is_one}
 use Rattle.surf_surfaces.proofs.bases.SimpleLaws.{basis_each}

@@ -1,10 +1,7 @@
 -- Quotients of spaces of vectors, and the choice by images.
-use Rattle.std.proofs.Common.{◌≡◌, ℕ, Bool, true, false, cond, List, [], ◌∷◌, ◌++◌, map, Decides, ◌⊎◌, inl, inr, refl, sym, ap, ◌∙◌, subst}
-use Rattle.surf_surfaces.proofs.Common.{AllByRecursion, cases_Bool, xor}
+use Rattle.surf_surfaces.proofs.Common.{◌≡◌, ℕ, Bool, true, false, cond, List, [], ◌∷◌, ◌++◌, map, Decides, ◌⊎◌, inl, inr, refl, sym, ap, ◌∙◌, subst, AllByRecursion, cases_Bool, xor, spans, greedy_after, greedy, Space, IsLinear}
 use Rattle.std.proofs.lemmas.List.{append_assoc}
-use Rattle.surf_z2.specs.Greedy.{spans, greedy_after, greedy}
 use Rattle.surf_z2.specs.Sieve.{reduce}
-use Rattle.surf_z2.specs.Space.{Space, IsLinear}
 use Rattle.surf_z2.proofs.Basics.{in_left, in_right, in_last_first, in_first_last}
 use Rattle.surf_z2.proofs.Greedy.{in_from_spans, spans_from_in, not_in_from_spans, not_spans, greedy_law}
 use Rattle.surf_z2.proofs.Sieve.{sieve_law}

@@ -1,7 +1,5 @@
 -- One search of a stage.
-use Rattle.surf_surfaces.proofs.Common.{not, ◌++◌, ap, inl, inr, loop_walk, place_at}
-use Rattle.std.proofs.lemmas.Bool.{cases_Bool, and_parts, and_from, not-true, leb-false}
-use Rattle.std.proofs.lemmas.List.Elements.{All-append}
+use Rattle.surf_surfaces.proofs.Common.{not, ◌++◌, ap, inl, inr, loop_walk, place_at, cases_Bool, and_parts, and_from, not-true, leb-false, All-append}
 use Rattle.surf_surfaces.proofs.bases.FirstFoundLaws.{loop_closed}
 use Rattle.surf_caps.specs.Barred.{next_choice, StageSearchesKeep}
 use Rattle.surf_caps.specs.Caps.{IsFoundBy, up_to_length, everywhere}

@@ -1,6 +1,5 @@
 -- Places that are sought from the start, and the sizes of loops that were found.
-use Rattle.surf_surfaces.proofs.Common.{◌≡◌, ℕ, zero, suc, ◌<◌, ◌≤◌, Bool, true, ◌&&◌, not, eqb, List, [], ◌∷◌, length, map, get_or, All, sym, ap, ◌∙◌, subst, arith, inl, inr, cases_Bool, cases_lt, or_cases, or_left, or_right, and_parts, and_from, false≢true, nat_tests, length-map, get_or-map, recursion_from_All, All-from_recursion, IsInOrder, primal, Mesh, IsSurface, first, IsClosed, edge_length, walk_length, ArePositive, cells_of, loop_walk, Place, is_no_later, Found, walks_found, comes_no_later, comes_sooner, tail}
-use Rattle.std.specs.List.Sorted.{IsNonDecreasing}
+use Rattle.surf_surfaces.proofs.Common.{◌≡◌, ℕ, zero, suc, ◌<◌, ◌≤◌, Bool, true, ◌&&◌, not, eqb, List, [], ◌∷◌, length, map, get_or, All, sym, ap, ◌∙◌, subst, arith, inl, inr, cases_Bool, cases_lt, or_cases, or_left, or_right, and_parts, and_from, false≢true, nat_tests, length-map, get_or-map, recursion_from_All, All-from_recursion, IsInOrder, primal, Mesh, IsSurface, first, IsClosed, edge_length, walk_length, ArePositive, cells_of, loop_walk, Place, is_no_later, Found, walks_found, comes_no_later, comes_sooner, tail, IsNonDecreasing}
 use Rattle.surf_surfaces.proofs.classes.ClassLaws.{runs_loop}
 use Rattle.surf_surfaces.proofs.bases.FewBasesLaws.{no_later-trans}
 use Rattle.surf_surfaces.proofs.walks.GraphWalkLaws.{graph_walk}

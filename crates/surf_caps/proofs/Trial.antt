@@ -1,6 +1,5 @@
 -- How the laws meet: two stages, as a program would have them, and the law of few bases again.
-use Rattle.surf_surfaces.proofs.Common.{◌≡◌, ℕ, ◌≤◌, Bool, true, ◌&&◌, List, length, map, All, Option, refl, arith, inl, inr, or_cases, or_left, or_right, and_from, nat_tests, IsInOrder, Split, IsSplit, Tree, Mesh, IsSurface, ArePositive, IsIndependent, IsLoopCount, cells_of, AreShortestTrees, Trees, AreChosen, Loop, IsChosenBasis}
-use Rattle.surf_surfaces.specs.FewBases.{Place, Found, IsWithin, walks_found, comes_no_later, comes_sooner, every_place, MeetsAll, AreEnough, HasFound}
+use Rattle.surf_surfaces.proofs.Common.{◌≡◌, ℕ, ◌≤◌, Bool, true, ◌&&◌, List, length, map, All, Option, refl, arith, inl, inr, or_cases, or_left, or_right, and_from, nat_tests, IsInOrder, Split, IsSplit, Tree, Mesh, IsSurface, ArePositive, IsIndependent, IsLoopCount, cells_of, AreShortestTrees, Trees, AreChosen, Loop, IsChosenBasis, Place, Found, IsWithin, walks_found, comes_no_later, comes_sooner, every_place, MeetsAll, AreEnough, HasFound}
 use Rattle.surf_firsts.specs.Near.{IsSoughtFromStart}
 use Rattle.surf_caps.specs.Heights.{AreHeights}
 use Rattle.surf_caps.specs.Caps.{Sought, up_to_caps, up_to_length, either, limited, everywhere, HaveAskedEnds, MeetsUpTo, IsFoundBy, AreEnoughFor, HaveAllPlaces}

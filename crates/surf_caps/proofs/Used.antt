@@ -1,8 +1,7 @@
 -- Rows that take part.
-use Rattle.surf_surfaces.proofs.Common.{◌≡◌, ◌≤◌, ℕ, zero, suc, Bool, true, false, cond, List, [], ◌∷◌, ◌++◌, length, take, refl, sym, ap, ◌∙◌, subst, arith, inl, inr, cases_lt, false≢true, length-append}
+use Rattle.surf_surfaces.proofs.Common.{◌≡◌, ◌≤◌, ℕ, zero, suc, Bool, true, false, cond, List, [], ◌∷◌, ◌++◌, length, take, refl, sym, ap, ◌∙◌, subst, arith, inl, inr, cases_lt, false≢true, length-append, Space}
 use Rattle.surf_z2.specs.Parity.{xor, xor-same}
 use Rattle.surf_z2.specs.Sieve.{reduce, IsSieve}
-use Rattle.surf_z2.specs.Space.{Space}
 use Rattle.surf_z2.proofs.Sieve.{sieve_law}
 use Rattle.surf_caps.specs.Used.{used_from, used, IsGradual, UsedLaw}
 

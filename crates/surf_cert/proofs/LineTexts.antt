@@ -1,9 +1,8 @@
 -- Each line that is written is read as what it was written of.
 use Rattle.std.proofs.Common.{◌≡◌, ◌<◌, ◌+◌, ◌^◌, ℕ, suc, true, false, List, [], ◌∷◌, ◌++◌, Option, Some, None, Ok, refl, sym, ◌∙◌, ap, append_assoc, append-nil, codes, inl, inr, arith}
-use Rattle.surf_surfaces.proofs.Common.{decimal, map, nat_le, nat_lt, ◌==◌, bytes_eq, cases_Bool, le-leb, lt-ltb, eq-eqb}
+use Rattle.surf_surfaces.proofs.Common.{decimal, map, nat_le, nat_lt, ◌==◌, bytes_eq, cases_Bool, le-leb, lt-ltb, eq-eqb, bytes_eq-Decides}
 use Rattle.std.specs.List.{All}
 use Rattle.std.proofs.lemmas.Fmt.{decimal_digit}
-use Rattle.std.proofs.lemmas.Slice.Eq.{bytes_eq-Decides}
 use Rattle.surf_text.specs.Text.{whole}
 use Rattle.surf_off.proofs.Decimals.{IsWord, word_decimal, whole_decimal}
 use Rattle.surf_off.proofs.Reread.{lines_from}

@@ -1,8 +1,6 @@
 -- What was read of a line fits the lines of a text.
-use Rattle.surf_surfaces.proofs.Common.{◌≡◌, ◌<◌, ◌^◌, ℕ, suc, Bool, true, false, List, [], ◌∷◌, length, Option, Some, None, refl, ap, codes, inl, inr, arith, nat_le, nat_lt, ◌&&◌, ◌==◌, IfSome, bytes_eq, cases_Bool, leb-true, ltb-true, eqb-true}
-use Rattle.std.specs.Char.{is_ascii_digit}
+use Rattle.surf_surfaces.proofs.Common.{◌≡◌, ◌<◌, ◌^◌, ℕ, suc, Bool, true, false, List, [], ◌∷◌, length, Option, Some, None, refl, ap, codes, inl, inr, arith, nat_le, nat_lt, ◌&&◌, ◌==◌, IfSome, bytes_eq, cases_Bool, leb-true, ltb-true, eqb-true, is_ascii_digit, All-nil, All-cons}
 use Rattle.std.specs.List.{All, list_all}
-use Rattle.std.proofs.lemmas.List.Elements.{All-nil, All-cons}
 use Rattle.surf_text.specs.Text.{is_nonempty, value_of, whole}
 use Rattle.surf_cert.specs.declared.line.Counts.{Counts}
 use Rattle.surf_cert.specs.Lines.{at_most_greatest, cert_number, three_counts, counts_of, if_same, base_of, base_at, some_parent, parent_of, with_parent, tree_row, below_root, dual_row, increasing, pair_of, is_next, if_next, pair_behind, onto_numbers, numbers_of, cycle_of}

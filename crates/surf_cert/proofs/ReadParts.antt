@@ -1,7 +1,6 @@
 -- A certificate that was read fits the lines of a text.
-use Rattle.surf_surfaces.proofs.Common.{◌≡◌, ◌<◌, ◌+◌, ◌^◌, ℕ, zero, suc, true, List, [], ◌∷◌, length, get_or, Option, Some, None, Result, Ok, Err, refl, sym, ◌∙◌, ap, subst, codes, inl, inr, arith, map, IfOk, IfSome, cases_Bool, length-map, pair_lt}
+use Rattle.surf_surfaces.proofs.Common.{◌≡◌, ◌<◌, ◌+◌, ◌^◌, ℕ, zero, suc, true, List, [], ◌∷◌, length, get_or, Option, Some, None, Result, Ok, Err, refl, sym, ◌∙◌, ap, subst, codes, inl, inr, arith, map, IfOk, IfSome, cases_Bool, length-map, pair_lt, All-nil, All-cons}
 use Rattle.std.specs.List.{All, AllPairs, zip}
-use Rattle.std.proofs.lemmas.List.Elements.{All-nil, All-cons}
 use Rattle.std.proofs.lemmas.List.Kept.{AllPairs-cons}
 use Rattle.surf_surfaces.proofs.meshes.PairLaws.{pair_lt-trans}
 use Rattle.surf_text.specs.Text.{TextLine, tokens_of, lines_of}

@@ -1,7 +1,6 @@
 -- Lines of one form, one after the other.
 use Rattle.std.proofs.Common.{◌≡◌, ◌<◌, ◌≤◌, ◌+◌, ◌-◌, ℕ, suc, List, [], ◌∷◌, ◌++◌, Option, Some, Result, Ok, Err, refl, sym, ◌∙◌, ap, append_assoc, append-nil, arith}
-use Rattle.std.specs.Prelude.{map}
-use Rattle.std.specs.List.{fold}
+use Rattle.surf_surfaces.proofs.Common.{map, fold}
 use Rattle.surf_text.specs.Text.{TextLine}
 use Rattle.surf_cert.specs.declared.fault.CertText.{CertText}
 use Rattle.surf_validity.specs.Rows.{TreeRows, DualRows}

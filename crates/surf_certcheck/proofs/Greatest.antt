@@ -1,9 +1,6 @@
 -- The greatest number of a set that is written in words.
-use Rattle.surf_surfaces.proofs.Common.{◌≡◌, ℕ, suc, ◌+◌, ◌*◌, ◌/◌, ◌%◌, ◌^◌, ◌<◌, ◌≤◌, List, get_or, eqb, ap, ◌∙◌, subst, arith, inl, inr, cases_eq, number}
-use Rattle.std.specs.Int.{bit_at}
+use Rattle.surf_surfaces.proofs.Common.{◌≡◌, ℕ, suc, ◌+◌, ◌*◌, ◌/◌, ◌%◌, ◌^◌, ◌<◌, ◌≤◌, List, get_or, eqb, ap, ◌∙◌, subst, arith, inl, inr, cases_eq, number, bit_at, bit_at_above, bit_at-zero, pow-add}
 use Rattle.std.proofs.lemmas.Nat.{pow_pos, le-div, div_below}
-use Rattle.std.proofs.lemmas.Nat.Bits.{bit_at_above, bit_at-zero}
-use Rattle.std.proofs.Math.Pow.{pow-add}
 use Rattle.surf_z2.proofs.Words.{bit_number}
 use Rattle.surf_certcheck.specs.Columns.{IsGreatestIn}
 

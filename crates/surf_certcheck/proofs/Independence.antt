@@ -1,8 +1,6 @@
 -- The cycles of a certificate by their places, and the frame of the first of them.
-use Rattle.surf_surfaces.proofs.Common.{◌≡◌, ◌≢◌, ℕ, ◌<◌, ◌+◌, ◌^◌, true, Option, Some, None, List, [], length, get_or, map, set, take, bit_xor, sym, ap, ◌∙◌, subst, map-map, has, Mesh, walk_signature, edge_count, walk_length}
+use Rattle.surf_surfaces.proofs.Common.{◌≡◌, ◌≢◌, ℕ, ◌<◌, ◌+◌, ◌^◌, true, Option, Some, None, List, [], length, get_or, map, set, take, bit_xor, sym, ap, ◌∙◌, subst, map-map, has, Mesh, walk_signature, edge_count, walk_length, take-length, numbers, Spanned, vectors, Weighed}
 use Rattle.std.proofs.lemmas.List.{get_or-map, take-map, map_more}
-use Rattle.std.proofs.Math.Seq.{take-length}
-use Rattle.surf_z2.specs.Space.{numbers, Spanned, vectors, Weighed}
 use Rattle.surf_signatures.specs.Tables.{Signed, added_where}
 use Rattle.surf_validity.specs.Bases.{split_in, signatures, IsDependent, weighed_cycle}
 use Rattle.surf_validity.specs.Rows.{BasisCert}

@@ -1,10 +1,6 @@
 -- What the places of cycles tell of sums: pure facts on sets of numbers.
-use Rattle.surf_surfaces.proofs.Common.{◌≡◌, ◌≢◌, ℕ, zero, suc, ◌<◌, ◌≤◌, ◌^◌, Bool, true, false, cond, eqb, List, [], ◌∷◌, map, bit_xor, refl, sym, ap, ◌∙◌, subst, arith, inl, inr, AllByRecursion, cases_eq, cases_lt, cases_Bool, false≢true, xor, has, InSpan, add_in, zero_in}
+use Rattle.surf_surfaces.proofs.Common.{◌≡◌, ◌≢◌, ℕ, zero, suc, ◌<◌, ◌≤◌, ◌^◌, Bool, true, false, cond, eqb, List, [], ◌∷◌, map, bit_xor, refl, sym, ap, ◌∙◌, subst, arith, inl, inr, AllByRecursion, cases_eq, cases_lt, cases_Bool, false≢true, xor, has, InSpan, add_in, zero_in, number_of, numbers, IsLinear, Chain, below_law, same_from_has, has-xor}
 use Rattle.std.proofs.lemmas.Nat.Bits.{bit_at-pow_same, bit_at-pow_other, bit_at-zero, bit_at_above}
-use Rattle.surf_z2.specs.Below.{number_of}
-use Rattle.surf_z2.specs.Space.{numbers, IsLinear, Chain}
-use Rattle.surf_z2.proofs.Below.{below_law, same_from_has}
-use Rattle.surf_z2.proofs.Numbers.{has-xor}
 
 pub has_one : (k : ℕ) → has (2 ^ k) k ≡ true
 has_one k = ap (λ b. eqb b 1) (bit_at-pow_same k)

@@ -1,9 +1,8 @@
 -- What a valid certificate of loops shows, and what a fault rules out, of an answer.
-use Rattle.surf_surfaces.proofs.Common.{◌≡◌, ◌≢◌, ℕ, List, sym, ◌∙◌, Mesh, IsSurface, ArePositive}
+use Rattle.surf_surfaces.proofs.Common.{◌≡◌, ◌≢◌, ℕ, List, sym, ◌∙◌, Mesh, IsSurface, ArePositive, total, IsLeastLoopSystem}
 use Rattle.std.specs.Result.{IfOk, IfErr}
 use Rattle.std.specs.declared.result.Result.{Result}
 use Rattle.std.specs.declared.result.Result.TheVariants.{Ok, Err}
-use Rattle.surf_surfaces.specs.Homology.{total, IsLeastLoopSystem}
 use Rattle.surf_validity.specs.Rows.{LoopCert}
 use Rattle.surf_validity.specs.Valid.{IsValidLoops, certified_loops, loops_total}
 use Rattle.surf_validity.proofs.LoopLaws.{valid_loops_are_least}

@@ -1,8 +1,5 @@
 -- Coordinates after a set was added where the sets of edges have a place.
-use Rattle.surf_surfaces.proofs.Common.{◌≡◌, ◌≢◌, ℕ, ◌<◌, ◌^◌, Bool, true, false, List, length, map, slice_index, bit_xor, refl, sym, ap, ◌∙◌, arith, inl, inr, cases_Bool, get_or-map, xor_lt, has, Split, Mesh, edge_count}
-use Rattle.std.specs.Int.Bits.{xor_zero_r, xor_self}
-use Rattle.surf_z2.specs.Space.{numbers, IsLinear}
-use Rattle.surf_z2.proofs.Numbers.{has-xor}
+use Rattle.surf_surfaces.proofs.Common.{◌≡◌, ◌≢◌, ℕ, ◌<◌, ◌^◌, Bool, true, false, List, length, map, slice_index, bit_xor, refl, sym, ap, ◌∙◌, arith, inl, inr, cases_Bool, get_or-map, xor_lt, has, Split, Mesh, edge_count, xor_zero_r, xor_self, numbers, IsLinear, has-xor}
 use Rattle.surf_z2.proofs.Span.{four}
 use Rattle.surf_signatures.specs.Tables.{added_where}
 use Rattle.surf_certcheck.specs.Frames.{AreTaken}

@@ -1,11 +1,9 @@
 -- Flags that don't fit an edge, and the chain that the edge closes.
-use Rattle.surf_surfaces.proofs.Common.{◌≡◌, ℕ, zero, suc, ◌<◌, ◌==◌, ◌++◌, Bool, false, eqb, List, [], ◌∷◌, get_or, refl, sym, ap, ◌∙◌, inl, inr, cases_Bool, xor_equal, Tree, Mesh, edge_count, ends, faces_of, IsSurface, IsOrientation}
+use Rattle.surf_surfaces.proofs.Common.{◌≡◌, ℕ, zero, suc, ◌<◌, ◌==◌, ◌++◌, Bool, false, eqb, List, [], ◌∷◌, get_or, refl, sym, ap, ◌∙◌, inl, inr, cases_Bool, xor_equal, Tree, Mesh, edge_count, ends, faces_of, IsSurface, IsOrientation, Link, side_count, sides_with, IsFaceOf, IsEdgeOf, IsMate}
 use Rattle.std.proofs.lemmas.List.{append_assoc}
 use Rattle.surf_z2.specs.Parity.{xor, xor_comm}
-use Rattle.surf_surfaces.specs.Turning.{Link}
 use Rattle.surf_orientation.specs.Chains.{same_way, Fits, misfit, links_down}
 use Rattle.surf_orientation.proofs.OneSidedLaws.{orientations_fit}
-use Rattle.surf_surfaces.specs.SideNumber.{side_count, sides_with, IsFaceOf, IsEdgeOf, IsMate}
 use Rattle.surf_soup.specs.Ring.{BeginsAt}
 use Rattle.surf_soup.proofs.Mates.{with_pair}
 use Rattle.surf_soup.proofs.Paired.{side_below, row_some}

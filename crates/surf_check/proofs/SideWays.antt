@@ -1,7 +1,6 @@
 -- The two sides of an edge: their faces, and whether they run the same way.
-use Rattle.surf_surfaces.proofs.Common.{◌≡◌, ◌≢◌, ℕ, ◌+◌, ◌-◌, ◌<◌, ◌||◌, ◌⊎◌, Bool, true, false, not, eqb, List, [], length, get_or, refl, sym, ap, subst, ◌∙◌, arith, inl, inr, cases_eq, eq-eqb, ne_eqb, eqb-true, lt-ltb, or_cases, or_right, joins, dual, Mesh, IsFace, pair, pair_of, pair_eq, edges, face_count, edge_count, face_at, ends, has_side, runs, faces_of, Share, IsSurface, cells_of, place_of}
+use Rattle.surf_surfaces.proofs.Common.{◌≡◌, ◌≢◌, ℕ, ◌+◌, ◌-◌, ◌<◌, ◌||◌, ◌⊎◌, Bool, true, false, not, eqb, List, [], length, get_or, refl, sym, ap, subst, ◌∙◌, arith, inl, inr, cases_eq, eq-eqb, ne_eqb, eqb-true, lt-ltb, or_cases, or_right, joins, dual, Mesh, IsFace, pair, pair_of, pair_eq, edges, face_count, edge_count, face_at, ends, has_side, runs, faces_of, Share, IsSurface, cells_of, place_of, after, corner, side_pair, pair_at, first_side, IsFaceOf, IsEdgeOf, IsMate}
 use Rattle.surf_z2.specs.Parity.{xor, xor_comm}
-use Rattle.surf_surfaces.specs.Side.{after, corner, side_pair}
 use Rattle.surf_surfaces.proofs.meshes.EdgeLaws.{place_of-among}
 use Rattle.surf_surfaces.proofs.meshes.PairLaws.{pair_eq-same, pair_eq-other}
 use Rattle.surf_surfaces.proofs.meshes.SideLaws.{pair_ends, side_place}
@@ -9,7 +8,6 @@ use Rattle.surf_surfaces.proofs.meshes.SurfaceLaws.{two_faces_of}
 use Rattle.surf_orientation.specs.Chains.{same_way}
 use Rattle.surf_orientation.proofs.SideNumbers.{ends_rise}
 use Rattle.surf_orientation.proofs.Turned.{runs_at}
-use Rattle.surf_surfaces.specs.SideNumber.{pair_at, first_side, IsFaceOf, IsEdgeOf, IsMate}
 use Rattle.surf_soup.specs.Vertices.{all_corners}
 use Rattle.surf_soup.specs.Ring.{BeginsAt}
 use Rattle.surf_soup.specs.Reach.{marked}

@@ -1,8 +1,5 @@
 -- Where the choice changes when others are offered to those kept.
-use Rattle.surf_surfaces.proofs.Common.{◌≡◌, ℕ, zero, suc, ◌+◌, ◌-◌, ◌<◌, ◌≤◌, true, false, List, [], ◌∷◌, ◌++◌, length, get_or, take, drop, All, refl, sym, ap, ◌∙◌, subst, arith, inl, inr, append_assoc, cases_lt, cases_Bool, AllByRecursion, recursion_from_All, All-from_recursion, merge, numbers, is_nothing, Spanned, Decides-is_nothing, in_from_spanned}
-use Rattle.std.proofs.lemmas.List.{append-nil, drop_more, at_drop_all, take_more, take-append-drop, take-map, get_or-drop, length-drop, get_or-take, length-take, take_all}
-use Rattle.surf_z2.specs.Greedy.{greedy_after, spans}
-use Rattle.surf_z2.proofs.Greedy.{not_spans}
+use Rattle.surf_surfaces.proofs.Common.{◌≡◌, ℕ, zero, suc, ◌+◌, ◌-◌, ◌<◌, ◌≤◌, true, false, List, [], ◌∷◌, ◌++◌, length, get_or, take, drop, All, refl, sym, ap, ◌∙◌, subst, arith, inl, inr, append_assoc, cases_lt, cases_Bool, AllByRecursion, recursion_from_All, All-from_recursion, merge, numbers, is_nothing, Spanned, Decides-is_nothing, in_from_spanned, append-nil, drop_more, at_drop_all, take_more, take-append-drop, take-map, get_or-drop, length-drop, get_or-take, length-take, take_all, greedy_after, spans, not_spans}
 use Rattle.surf_choice.specs.declared.candidate.Signed.{Signed}
 use Rattle.surf_choice.specs.Candidates.{signed_earlier, has_next, independent_of, signatures, kept_after, IsChange}
 use Rattle.surf_choice.specs.Echelons.{AreRowsOf}

@@ -1,9 +1,6 @@
 -- The choice of the independent candidates of a list, one after another.
-use Rattle.surf_surfaces.proofs.Common.{◌≡◌, ℕ, ◌+◌, ◌<◌, ◌≤◌, ◌^◌, true, false, Bool, List, [], ◌∷◌, ◌++◌, length, get_or, drop, map, All, refl, sym, ap, ◌∙◌, subst, append_assoc, arith, take, ◌↔◌, inl, inr, AllByRecursion, cases_Bool, recursion_from_All, All-from_recursion, All-permutation, merge, numbers, is_nothing, chosen, Spanned, Decides-is_nothing, spanned_from_in}
-use Rattle.std.proofs.lemmas.List.{at_drop_more, at_drop_all, append-nil, map-append, length-map, take_all}
-use Rattle.surf_z2.specs.Greedy.{greedy_after, spans}
+use Rattle.surf_surfaces.proofs.Common.{◌≡◌, ℕ, ◌+◌, ◌<◌, ◌≤◌, ◌^◌, true, false, Bool, List, [], ◌∷◌, ◌++◌, length, get_or, drop, map, All, refl, sym, ap, ◌∙◌, subst, append_assoc, arith, take, ◌↔◌, inl, inr, AllByRecursion, cases_Bool, recursion_from_All, All-from_recursion, All-permutation, merge, numbers, is_nothing, chosen, Spanned, Decides-is_nothing, spanned_from_in, at_drop_more, at_drop_all, append-nil, map-append, length-map, take_all, greedy_after, spans, same_members}
 use Rattle.surf_z2.proofs.Greedy.{spans_law, not_spans, greedy_law}
-use Rattle.surf_z2.proofs.Merge.{same_members}
 use Rattle.surf_choice.specs.declared.candidate.Signed.{Signed}
 use Rattle.surf_choice.specs.Candidates.{signed_earlier, independent_of, signatures, kept_after}
 use Rattle.surf_choice.specs.Echelons.{AreRowsOf, IsAdmitted}

@@ -1,6 +1,5 @@
 -- Evidence as it is counted.
-use Rattle.std.proofs.Common.{◌≡◌, ◌≢◌, ℕ, ◌<◌, ◌≤◌, Bool, true, false, suc, List, [], ◌∷◌, get_or, AllPairs, All, Contains, Result, Ok, Err, Some, None, IfErr, refl, sym, ap, ◌∙◌, subst, arith}
-use Rattle.surf_surfaces.proofs.Common.{position, get_or_default, xor, Chain, Mesh, edges, pair_lt, face_count, edge_count, faces_of, ends, IsSurface, boundary, edge_number}
+use Rattle.surf_surfaces.proofs.Common.{◌≡◌, ◌≢◌, ℕ, ◌<◌, ◌≤◌, Bool, true, false, suc, List, [], ◌∷◌, get_or, AllPairs, All, Contains, Result, Ok, Err, Some, None, IfErr, refl, sym, ap, ◌∙◌, subst, arith, position, get_or_default, xor, Chain, Mesh, edges, pair_lt, face_count, edge_count, faces_of, ends, IsSurface, boundary, edge_number}
 use Rattle.std.proofs.lemmas.List.Quantifiers.{position-Some}
 use Rattle.surf_class.proofs.Lists.{none_passes}
 use Rattle.surf_surfaces.proofs.meshes.CellLaws.{surfaces_are_cells}

@@ -1,7 +1,6 @@
 -- The edges of ways up a tree of faces, turned one after the other.
-use Rattle.surf_surfaces.proofs.Common.{◌≡◌, ◌≢◌, ℕ, ◌<◌, Bool, eqb, ap, sym, ◌∙◌, eqb_comm, Graph, Tree, IsTree, on_path}
+use Rattle.surf_surfaces.proofs.Common.{◌≡◌, ◌≢◌, ℕ, ◌<◌, Bool, eqb, ap, sym, ◌∙◌, eqb_comm, Graph, Tree, IsTree, on_path, path_step}
 use Rattle.surf_z2.specs.Parity.{xor, xor_assoc}
-use Rattle.surf_graphs.proofs.Trees.{path_step}
 
 -- one step up: the edge of a face is turned
 pub turned_up : (g : Graph) (t : Tree) → IsTree g t → (n parent edge place e : ℕ) (old new : Bool) → n < g.nodes →

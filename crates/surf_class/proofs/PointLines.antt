@@ -1,6 +1,5 @@
 -- What a file of vertices says, stage by stage.
-use Rattle.surf_surfaces.proofs.Common.{◌≡◌, ℕ, ◌<◌, nat_le, List, [], ◌∷◌, get_or, None, Ok, Err, refl, ap, ◌∙◌, All, position, All-from_get_or, Mesh}
-use Rattle.std.proofs.lemmas.Bool.{leb-false}
+use Rattle.surf_surfaces.proofs.Common.{◌≡◌, ℕ, ◌<◌, nat_le, List, [], ◌∷◌, get_or, None, Ok, Err, refl, ap, ◌∙◌, All, position, All-from_get_or, Mesh, leb-false}
 use Rattle.surf_text.specs.Text.{TextLine, tokens_of, lines_of}
 use Rattle.surf_class.specs.Numbers.{numbers_from}
 use Rattle.surf_class.specs.Points.{points_of, points_in, if_alone}

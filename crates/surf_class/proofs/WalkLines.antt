@@ -1,8 +1,6 @@
 -- What a walk file says, stage by stage.
-use Rattle.surf_surfaces.proofs.Common.{◌≡◌, ℕ, suc, ◌<◌, ◌+◌, Bool, true, false, not, nat_le, eqb, List, [], ◌∷◌, length, get_or, Option, Some, None, Result, Ok, Err, refl, sym, ap, ◌∙◌, subst, arith, position, get_or_default, Mesh, pair_of, among, steps, edges}
-use Rattle.std.proofs.lemmas.Bool.{leb-false, eqb-true}
+use Rattle.surf_surfaces.proofs.Common.{◌≡◌, ℕ, suc, ◌<◌, ◌+◌, Bool, true, false, not, nat_le, eqb, List, [], ◌∷◌, length, get_or, Option, Some, None, Result, Ok, Err, refl, sym, ap, ◌∙◌, subst, arith, position, get_or_default, Mesh, pair_of, among, steps, edges, leb-false, eqb-true, first, last, IsClosed}
 use Rattle.surf_text.specs.Text.{TextLine, tokens_of, lines_of}
-use Rattle.surf_surfaces.specs.Walk.{first, last, IsClosed}
 use Rattle.surf_surfaces.proofs.meshes.EdgeLaws.{contains_from_among}
 use Rattle.surf_cert.specs.Lines.{cert_number}
 use Rattle.surf_class.specs.Numbers.{onto_numbers, numbers_from}

@@ -1,8 +1,6 @@
 -- The odd evidence is that of all trees that are chosen at a base.
-use Rattle.surf_surfaces.proofs.Common.{◌≡◌, ℕ, zero, suc, ◌<◌, Bool, true, false, not, ◌&&◌, cond, eqb, List, length, get_or, refl, sym, ap, ◌∙◌, arith, inl, inr, cases_eq, eq-eqb, ne_eqb, All-from_recursion, xor, Chain, same_from, any_below-same, odd_below-same, signature, chain_signature, signature_of, Mesh, face_count, edge_count, faces_of, IsSurface, ArePositive, cells_of, Trees, AreChosenAt, edge_signature}
-use Rattle.surf_z2.specs.Below.{number_of}
+use Rattle.surf_surfaces.proofs.Common.{◌≡◌, ℕ, zero, suc, ◌<◌, Bool, true, false, not, ◌&&◌, cond, eqb, List, length, get_or, refl, sym, ap, ◌∙◌, arith, inl, inr, cases_eq, eq-eqb, ne_eqb, All-from_recursion, xor, Chain, same_from, any_below-same, odd_below-same, signature, chain_signature, signature_of, Mesh, face_count, edge_count, faces_of, IsSurface, ArePositive, cells_of, Trees, AreChosenAt, edge_signature, number_of, on_way, on_path}
 use Rattle.surf_z2.proofs.Passing.{filter_same}
-use Rattle.surf_graphs.specs.Trees.{on_way, on_path}
 use Rattle.surf_surfaces.specs.Cotree.{tree_edges, cotree_edges, is_left, left_edges, split_of}
 use Rattle.surf_surfaces.proofs.meshes.CellLaws.{surfaces_are_cells}
 use Rattle.surf_surfaces.proofs.bases.LoopsOne.{trees_same, cotrees_same}

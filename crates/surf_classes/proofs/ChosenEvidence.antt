@@ -1,6 +1,5 @@
 -- Of the evidence of closed walks one is chosen, and it is right.
-use Rattle.surf_surfaces.proofs.Common.{◌≡◌, ℕ, List, sym, ap, ◌∙◌, arith, inl, inr, cases_eq, get_or-replicate, Chain, Split, IsSplit, signature_of, Mesh, edge_count, IsSurface, edge_length, ArePositive, cells_of, Trees, AreChosenAt, split_of}
-use Rattle.surf_surfaces.specs.Homology.{IsBoundary}
+use Rattle.surf_surfaces.proofs.Common.{◌≡◌, ℕ, List, sym, ap, ◌∙◌, arith, inl, inr, cases_eq, get_or-replicate, Chain, Split, IsSplit, signature_of, Mesh, edge_count, IsSurface, edge_length, ArePositive, cells_of, Trees, AreChosenAt, split_of, IsBoundary}
 use Rattle.surf_surfaces.proofs.bases.ChoiceExists.{choice_exists}
 use Rattle.surf_surfaces.proofs.classes.ClassLaws.{some_vertex}
 use Rattle.surf_surfaces.proofs.bases.LoopsAtLaws.{split_is}

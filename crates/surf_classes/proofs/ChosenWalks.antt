@@ -1,11 +1,10 @@
 -- There is one chosen walk in each class.
-use Rattle.surf_surfaces.proofs.Common.{◌≡◌, ℕ, suc, ◌+◌, ◌<◌, ◌≤◌, ◌⊎◌, List, [], ◌∷◌, ◌++◌, length, reverse, refl, sym, ap, ◌∙◌, subst, arith, inl, inr, Contains, cases_lt, All-from_recursion, xor-false, primal, Split, IsSplit, graph_walk_length, Mesh, pair_of, edges, IsSurface, IsClosed, ArePositive, edge_length, first, parity, walk_length, tail, cells_of, edge_signature, walk_signature}
+use Rattle.surf_surfaces.proofs.Common.{◌≡◌, ℕ, suc, ◌+◌, ◌<◌, ◌≤◌, ◌⊎◌, List, [], ◌∷◌, ◌++◌, length, reverse, refl, sym, ap, ◌∙◌, subst, arith, inl, inr, Contains, cases_lt, All-from_recursion, xor-false, primal, Split, IsSplit, graph_walk_length, Mesh, pair_of, edges, IsSurface, IsClosed, ArePositive, edge_length, first, parity, walk_length, tail, cells_of, edge_signature, walk_signature, least_such}
 use Rattle.std.proofs.lemmas.List.{reverse-reverse, length-append}
 use Rattle.surf_surfaces.proofs.meshes.CellLaws.{surfaces_are_cells}
 use Rattle.surf_surfaces.proofs.classes.ClassLaws.{some_split, some_vertex}
 use Rattle.surf_classes.specs.Shortest.{IsInClass, IsShortestInClass, IsChosenWalk}
 use Rattle.surf_classes.specs.ShortestLaws.{ChosenWalkIsOne, NullChoiceIsVertex}
-use Rattle.surf_z2.proofs.Sought.{least_such}
 use Rattle.surf_classes.proofs.SignedWalks.{walk_sum, Goes, IsLeastWalk, Found, seek, least_one, least_at, least_from}
 use Rattle.surf_classes.proofs.Rounds.{Signed, reverse_at, homologous_by_signature, backwards, Round, forwards}
 

@@ -1,9 +1,5 @@
 -- The cover is a graph, and a search over it certifies its table.
-use Rattle.surf_surfaces.proofs.Common.{◌≡◌, ◌≢◌, ℕ, ◌+◌, ◌*◌, ◌/◌, ◌%◌, ◌<◌, ◌≤◌, Bool, true, false, cond, eqb, List, [], ◌∷◌, bit_xor, refl, sym, ap, ◌∙◌, subst, arith, inl, inr, eq-eqb, ne_eqb, and_from, or_left, numbers, xor_equal, Split, IsSplit, primal, joins_turned, joins_ends, one_of, Mesh, edge_count, ends, IsSurface, edge_length, cells_of, edge_signature}
-use Rattle.std.proofs.lemmas.Nat.{div-mul-add, mod-mul-add, same_from_place, div_below, mod_below, div-add-mod', row_fits}
-use Rattle.surf_z2.proofs.Span.{add_zero}
-use Rattle.surf_graphs.specs.Graphs.{Graph, IsGraph, IsGraphWalk, IsJoined, joins, leaves, edge_between}
-use Rattle.surf_graphs.proofs.Graphs.{edge_between_is, leaves_joined}
+use Rattle.surf_surfaces.proofs.Common.{◌≡◌, ◌≢◌, ℕ, ◌+◌, ◌*◌, ◌/◌, ◌%◌, ◌<◌, ◌≤◌, Bool, true, false, cond, eqb, List, [], ◌∷◌, bit_xor, refl, sym, ap, ◌∙◌, subst, arith, inl, inr, eq-eqb, ne_eqb, and_from, or_left, numbers, xor_equal, Split, IsSplit, primal, joins_turned, joins_ends, one_of, Mesh, edge_count, ends, IsSurface, edge_length, cells_of, edge_signature, div-mul-add, mod-mul-add, same_from_place, div_below, mod_below, div-add-mod', row_fits, add_zero, Graph, IsGraph, IsGraphWalk, IsJoined, joins, leaves, edge_between, edge_between_is, leaves_joined}
 use Rattle.surf_surfaces.proofs.meshes.CellLaws.{surfaces_are_cells}
 use Rattle.surf_classes.specs.Cover.{IsSet}
 use Rattle.surf_classes.specs.CoverGraph.{set_count, cover_node, cover, cover_edge, IsCover, CoversAreGraphs, SearchesCertify}

@@ -1,12 +1,11 @@
 -- Evidence is right or has one first fault.
-use Rattle.surf_surfaces.proofs.Common.{◌≡◌, ◌≢◌, ℕ, ◌<◌, ◌≤◌, ◌⊎◌, Bool, true, false, eqb, List, [], ◌∷◌, refl, sym, ap, ◌∙◌, subst, arith, inl, inr, All, AllPairs, Contains, AllByRecursion, cases_lt, cases_order, cases_Bool, eqb-true, eq-eqb, or_cases, or_left, or_right, false≢true, All-from_recursion, recursion_from_All, Chain, Mesh, pair_eq, pair_lt, among, edges, face_count, edge_count, ends, boundary}
+use Rattle.surf_surfaces.proofs.Common.{◌≡◌, ◌≢◌, ℕ, ◌<◌, ◌≤◌, ◌⊎◌, Bool, true, false, eqb, List, [], ◌∷◌, refl, sym, ap, ◌∙◌, subst, arith, inl, inr, All, AllPairs, Contains, AllByRecursion, cases_lt, cases_order, cases_Bool, eqb-true, eq-eqb, or_cases, or_left, or_right, false≢true, All-from_recursion, recursion_from_All, Chain, Mesh, pair_eq, pair_lt, among, edges, face_count, edge_count, ends, boundary, least_such}
 use Rattle.surf_surfaces.proofs.meshes.PairLaws.{Rising, pair_eq-true, pair_eq-self, pair_lt-irreflexive, pair_lt-trans, pair_lt-total}
 use Rattle.surf_surfaces.proofs.meshes.EdgeLaws.{rising_from_AllPairs, among-contains, contains_from_among}
 use Rattle.surf_classes.specs.Evidence.{is_listed, has_odd_sides, is_odd_in, IsNullEvidence, IsOddEvidence, null_faces, odd_pairs}
 use Rattle.surf_classes.specs.Faults.{Fault, no_face, no_boundary, no_pair, odd_face, even_number, IsNoFace, IsNoBoundary, IsNoPair, IsNullFault, IsOddFault}
 use Rattle.surf_classes.specs.EvidenceLaws.{FaultsAreTold}
 use Rattle.surf_classes.proofs.Listed.{Climbing, climbing_from, listed_above}
-use Rattle.surf_z2.proofs.Sought.{least_such}
 
 -- ---- faces
 

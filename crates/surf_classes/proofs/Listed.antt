@@ -1,7 +1,6 @@
 -- Increasing lists of numbers and of pairs: what is in them, and that their members determine them.
-use Rattle.surf_surfaces.proofs.Common.{◌≡◌, ℕ, zero, suc, ◌+◌, ◌<◌, ◌≤◌, ◌⊎◌, Bool, true, false, ◌||◌, eqb, List, [], ◌∷◌, refl, sym, ◌∙◌, arith, inl, inr, AllPairs, All-from_recursion, recursion_from_All, pair_lt, pair_eq, among}
+use Rattle.surf_surfaces.proofs.Common.{◌≡◌, ℕ, zero, suc, ◌+◌, ◌<◌, ◌≤◌, ◌⊎◌, Bool, true, false, ◌||◌, eqb, List, [], ◌∷◌, refl, sym, ◌∙◌, arith, inl, inr, AllPairs, All-from_recursion, recursion_from_All, pair_lt, pair_eq, among, eqb-true, eq-eqb, ne_eqb, cases_eq, cases_Bool, false_from_ne_true, or_cases, or_left, or_from, false≢true}
 use Rattle.std.specs.List.{AllByRecursion, filter, range_with_len}
-use Rattle.std.proofs.lemmas.Bool.{eqb-true, eq-eqb, ne_eqb, cases_eq, cases_Bool, false_from_ne_true, or_cases, or_left, or_from, false≢true}
 use Rattle.surf_surfaces.proofs.meshes.PairLaws.{Rising, pair_eq-true, pair_lt-irreflexive}
 use Rattle.surf_surfaces.proofs.meshes.FaceLaws.{Once}
 use Rattle.surf_classes.specs.Evidence.{is_listed}

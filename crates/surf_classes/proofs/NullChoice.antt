@@ -1,9 +1,7 @@
 -- The null evidence of a boundary.
-use Rattle.surf_surfaces.proofs.Common.{◌≡◌, ℕ, ◌<◌, ◌≤◌, Bool, false, List, [], ◌∷◌, refl, sym, ap, ◌∙◌, arith, inl, inr, cases_lt, eqb-true, or_cases, false_from_ne_true, false≢true, All-from_recursion, recursion_from_All, xor, Chain, dual, Mesh, face_count, edge_count, faces_of, IsSurface, boundary, cells_of}
+use Rattle.surf_surfaces.proofs.Common.{◌≡◌, ℕ, ◌<◌, ◌≤◌, Bool, false, List, [], ◌∷◌, refl, sym, ap, ◌∙◌, arith, inl, inr, cases_lt, eqb-true, or_cases, false_from_ne_true, false≢true, All-from_recursion, recursion_from_All, xor, Chain, dual, Mesh, face_count, edge_count, faces_of, IsSurface, boundary, cells_of, leaves_joined, down_tree}
 use Rattle.std.specs.List.{AllByRecursion, filter, range_with_len}
 use Rattle.surf_z2.proofs.ParityLaws.{xors, xor-same, xor_ends, xor_pairs, xor_equal, equal_xor}
-use Rattle.surf_graphs.proofs.Graphs.{leaves_joined}
-use Rattle.surf_graphs.proofs.Trees.{down_tree}
 use Rattle.surf_surfaces.proofs.meshes.CellLaws.{surfaces_are_cells}
 use Rattle.surf_classes.specs.Evidence.{is_listed, IsChosenNull}
 use Rattle.surf_classes.specs.EvidenceLaws.{BoundariesHaveEvidence, NullChoiceIsOne, NullChoiceIsFiltered, NullEvidenceGrows}

@@ -1,11 +1,7 @@
 -- The odd evidence of chains that are no boundaries.
-use Rattle.surf_surfaces.proofs.Common.{◌≡◌, ℕ, ◌<◌, Bool, true, false, ◌&&◌, ◌||◌, eqb, List, [], ◌∷◌, length, get_or, map, bit_xor, Option, Some, None, refl, sym, ap, ◌∙◌, subst, arith, inl, inr, Contains, cases_lt, cases_order, cases_Bool, false≢true, false_from_ne_true, All-from_recursion, recursion_from_All, Contains-get_or, any_below, Chain, has, and_comm, odd_below-same, any_below-none, primal, dual, Split, signature, chain_signature, signature_of, Mesh, pair_eq, pair_lt, among, edges, edge_count, ends, borders, IsSurface, parity, place_of, cells_of, edge_signature, walk_signature}
+use Rattle.surf_surfaces.proofs.Common.{◌≡◌, ℕ, ◌<◌, Bool, true, false, ◌&&◌, ◌||◌, eqb, List, [], ◌∷◌, length, get_or, map, bit_xor, Option, Some, None, refl, sym, ap, ◌∙◌, subst, arith, inl, inr, Contains, cases_lt, cases_order, cases_Bool, false≢true, false_from_ne_true, All-from_recursion, recursion_from_All, Contains-get_or, any_below, Chain, has, and_comm, odd_below-same, any_below-none, primal, dual, Split, signature, chain_signature, signature_of, Mesh, pair_eq, pair_lt, among, edges, edge_count, ends, borders, IsSurface, parity, place_of, cells_of, edge_signature, walk_signature, below_law, graph_touches, IsEven, even-xor, signature_of-linear, null_zero, zero_null}
 use Rattle.std.specs.List.{AllByRecursion, filter, range_with_len}
-use Rattle.surf_z2.proofs.Below.{below_law}
-use Rattle.surf_graphs.specs.Graphs.{graph_touches, IsEven}
 use Rattle.surf_graphs.proofs.CellLaws.{face_zero, signature_null}
-use Rattle.surf_graphs.proofs.Graphs.{even-xor}
-use Rattle.surf_graphs.proofs.Independence.{signature_of-linear, null_zero, zero_null}
 use Rattle.surf_graphs.proofs.ShortestWalks.{first_passing}
 use Rattle.surf_surfaces.proofs.meshes.CellLaws.{surfaces_are_cells}
 use Rattle.surf_surfaces.proofs.meshes.PairLaws.{Rising, pair_eq-true}

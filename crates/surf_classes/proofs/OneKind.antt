@@ -1,7 +1,5 @@
 -- No chain has evidence of both kinds.
-use Rattle.surf_surfaces.proofs.Common.{◌≡◌, ℕ, ◌<◌, Bool, true, false, ◌&&◌, List, [], ◌∷◌, sym, ap, ◌∙◌, Contains, AllByRecursion, false≢true, recursion_from_All, odd_below, dual, Mesh, among, edges, face_count, edge_count, ends, borders, IsSurface, boundary, cells_of}
-use Rattle.surf_z2.proofs.ParityLaws.{and_comm, and-false, odd_below-same, odd_below-none}
-use Rattle.surf_graphs.specs.Graphs.{graph_touches}
+use Rattle.surf_surfaces.proofs.Common.{◌≡◌, ℕ, ◌<◌, Bool, true, false, ◌&&◌, List, [], ◌∷◌, sym, ap, ◌∙◌, Contains, AllByRecursion, false≢true, recursion_from_All, odd_below, dual, Mesh, among, edges, face_count, edge_count, ends, borders, IsSurface, boundary, cells_of, and_comm, and-false, odd_below-same, odd_below-none, graph_touches}
 use Rattle.surf_graphs.proofs.Graphs.{by_nodes}
 use Rattle.surf_surfaces.proofs.meshes.CellLaws.{surfaces_are_cells}
 use Rattle.surf_surfaces.proofs.meshes.EdgeLaws.{rising_from_AllPairs, among-contains}

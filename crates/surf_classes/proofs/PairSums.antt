@@ -1,7 +1,5 @@
 -- Sums over lists of pairs, as sums over all edges.
-use Rattle.surf_surfaces.proofs.Common.{◌≡◌, ℕ, ◌<◌, Bool, true, false, ◌&&◌, ◌||◌, eqb, List, [], ◌∷◌, map, refl, sym, ap, ◌∙◌, arith, AllByRecursion, or_left, or_right, false≢true, map-map, xor, odd, odd_below, Chain, dual, Mesh, sides, pair_of, pair_eq, among, edges, face_count, edge_count, face_at, ends, has_side, borders, faces_of, IsSurface, edge_number, cells_of}
-use Rattle.surf_z2.proofs.ParityLaws.{xor-and, or-xor, eqb_comm, odd_below-same, odd_below-none, odd_below-xor}
-use Rattle.surf_graphs.specs.Graphs.{graph_touches}
+use Rattle.surf_surfaces.proofs.Common.{◌≡◌, ℕ, ◌<◌, Bool, true, false, ◌&&◌, ◌||◌, eqb, List, [], ◌∷◌, map, refl, sym, ap, ◌∙◌, arith, AllByRecursion, or_left, or_right, false≢true, map-map, xor, odd, odd_below, Chain, dual, Mesh, sides, pair_of, pair_eq, among, edges, face_count, edge_count, face_at, ends, has_side, borders, faces_of, IsSurface, edge_number, cells_of, xor-and, or-xor, eqb_comm, odd_below-same, odd_below-none, odd_below-xor, graph_touches}
 use Rattle.surf_surfaces.proofs.meshes.PairLaws.{pair_eq-true, pair_eq-self}
 use Rattle.surf_surfaces.proofs.meshes.EdgeLaws.{odd_below-ends, rising_from_AllPairs}
 use Rattle.surf_surfaces.proofs.meshes.FaceLaws.{Once, face_once, among-map}

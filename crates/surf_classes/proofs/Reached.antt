@@ -1,11 +1,7 @@
 -- Each vertex is reached with each set.
-use Rattle.surf_surfaces.proofs.Common.{◌≡◌, ℕ, zero, suc, ◌+◌, ◌<◌, ◌≤◌, true, false, ◌&&◌, eqb, ltb, List, [], ◌∷◌, ◌++◌, length, get_or, bit_xor, refl, sym, ap, ◌∙◌, subst, arith, inl, inr, cases_eq, cases_lt, cases_Bool, eq-eqb, ne_eqb, lt-ltb, le-ltb, xor, Chain, numbers, difference, has, primal, Split, IsSplit, signature, IsJoined, edge_between, in_tree, edge_between_is, joins_ends, Mesh, ends, IsSurface, edge_length, cells_of, edge_signature}
-use Rattle.std.proofs.lemmas.Nat.Bits.{bit_at_above}
-use Rattle.surf_z2.specs.Below.{number_of}
+use Rattle.surf_surfaces.proofs.Common.{◌≡◌, ℕ, zero, suc, ◌+◌, ◌<◌, ◌≤◌, true, false, ◌&&◌, eqb, ltb, List, [], ◌∷◌, ◌++◌, length, get_or, bit_xor, refl, sym, ap, ◌∙◌, subst, arith, inl, inr, cases_eq, cases_lt, cases_Bool, eq-eqb, ne_eqb, lt-ltb, le-ltb, xor, Chain, numbers, difference, has, primal, Split, IsSplit, signature, IsJoined, edge_between, in_tree, edge_between_is, joins_ends, Mesh, ends, IsSurface, edge_length, cells_of, edge_signature, bit_at_above, number_of, add_zero, up_in_tree, down_tree}
 use Rattle.surf_z2.proofs.Below.{below_law, same_from, same_from_has, number_of-none, number_of-sum}
-use Rattle.surf_z2.proofs.Span.{add_zero}
 use Rattle.surf_graphs.proofs.CellLaws.{left_once}
-use Rattle.surf_graphs.proofs.Trees.{up_in_tree, down_tree}
 use Rattle.surf_surfaces.proofs.meshes.CellLaws.{surfaces_are_cells}
 use Rattle.surf_classes.specs.Cover.{IsSet}
 use Rattle.surf_classes.specs.ShortestLaws.{SignedDistancesExist}

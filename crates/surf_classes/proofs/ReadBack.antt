@@ -1,13 +1,10 @@
 -- What is read back off the distances is the chosen walk.
-use Rattle.surf_surfaces.proofs.Common.{◌≡◌, ℕ, zero, suc, ◌+◌, ◌-◌, ◌<◌, ◌≤◌, ◌⊎◌, List, [], ◌∷◌, ◌++◌, length, bit_xor, refl, sym, ap, ◌∙◌, subst, arith, inl, inr, cases_eq, cases_Bool, false≢true, primal, Split, chain_signature, edge_between, Mesh, pair, edges, among, IsSurface, IsClosed, ArePositive, edge_length, parity, cells_of, edge_signature, walk_signature}
-use Rattle.surf_z2.proofs.Below.{small}
-use Rattle.surf_graphs.proofs.Trees.{joined_in}
+use Rattle.surf_surfaces.proofs.Common.{◌≡◌, ℕ, zero, suc, ◌+◌, ◌-◌, ◌<◌, ◌≤◌, ◌⊎◌, List, [], ◌∷◌, ◌++◌, length, bit_xor, refl, sym, ap, ◌∙◌, subst, arith, inl, inr, cases_eq, cases_Bool, false≢true, primal, Split, chain_signature, edge_between, Mesh, pair, edges, among, IsSurface, IsClosed, ArePositive, edge_length, parity, cells_of, edge_signature, walk_signature, small, joined_in, least_such}
 use Rattle.surf_surfaces.proofs.meshes.CellLaws.{surfaces_are_cells}
 use Rattle.surf_surfaces.proofs.meshes.EdgeLaws.{among-contains, contains_from_among}
 use Rattle.surf_surfaces.proofs.classes.SignatureLaws.{signatures_are_classes}
 use Rattle.surf_classes.specs.Cover.{IsSet, IsTightFor, IsLeastTight, IsReadBack, IsReadTo, IsCertified, step_signature, step_length}
 use Rattle.surf_classes.specs.ShortestLaws.{ReadBackIsChosen, TablesAreReadBack, TablesReadOn}
-use Rattle.surf_z2.proofs.Sought.{least_such}
 use Rattle.surf_classes.proofs.SignedWalks.{xor_on, goes_over, after, step_long}
 use Rattle.surf_classes.proofs.Rounds.{Signed, forwards}
 use Rattle.surf_classes.proofs.ChosenWalks.{Least, LeastRound, chosen_from}

@@ -1,9 +1,7 @@
 -- Closed walks of a mesh, as walks of its graph with lengths and signatures, run from their ends backwards.
-use Rattle.surf_surfaces.proofs.Common.{◌≡◌, ℕ, ◌<◌, List, [], ◌∷◌, ◌++◌, map, reverse, bit_xor, refl, sym, ap, ◌∙◌, subst, arith, Contains, AllByRecursion, recursion_from_All, numbers, sum_of, difference, primal, Split, Graph, IsGraphWalk, edge_between, signature_of, Mesh, IsMesh, pair_of, steps_from, edges, IsSurface, cells_of, edge_signature, walk_signature}
+use Rattle.surf_surfaces.proofs.Common.{◌≡◌, ℕ, ◌<◌, List, [], ◌∷◌, ◌++◌, map, reverse, bit_xor, refl, sym, ap, ◌∙◌, subst, arith, Contains, AllByRecursion, recursion_from_All, numbers, sum_of, difference, primal, Split, Graph, IsGraphWalk, edge_between, signature_of, Mesh, IsMesh, pair_of, steps_from, edges, IsSurface, cells_of, edge_signature, walk_signature, even-xor, signature_of-linear, null_zero, zero_null}
 use Rattle.std.proofs.lemmas.List.{reverse-append, append_assoc}
 use Rattle.surf_z2.proofs.Span.{same_from_sum}
-use Rattle.surf_graphs.proofs.Graphs.{even-xor}
-use Rattle.surf_graphs.proofs.Independence.{signature_of-linear, null_zero, zero_null}
 use Rattle.surf_surfaces.specs.Walk.{IsWalk, IsClosed, first, last_from, edge_length, edge_number, parity, walk_length}
 use Rattle.surf_surfaces.proofs.meshes.CellLaws.{surfaces_are_cells}
 use Rattle.surf_surfaces.proofs.walks.GraphWalkLaws.{between_is_number, walks_are_graph_walks, closed_parity_even}

@@ -1,12 +1,10 @@
 -- Steps of a mesh as steps of its graph with signatures, and least lengths of walks with a signature.
-use Rattle.surf_surfaces.proofs.Common.{◌≡◌, ℕ, suc, ◌+◌, ◌<◌, ◌≤◌, ◌^◌, ◌⊎◌, false, List, [], ◌∷◌, length, bit_xor, refl, sym, ap, ◌∙◌, subst, arith, inl, inr, Contains, cases_lt, xor_lt, primal, Split, signature, IsJoined, edge_between, Mesh, IsMesh, pair, edges, IsSurface, ArePositive, edge_length, edge_number, place_of, walk_length, cells_of, edge_signature}
-use Rattle.surf_z2.proofs.Below.{small, number_of-none}
+use Rattle.surf_surfaces.proofs.Common.{◌≡◌, ℕ, suc, ◌+◌, ◌<◌, ◌≤◌, ◌^◌, ◌⊎◌, false, List, [], ◌∷◌, length, bit_xor, refl, sym, ap, ◌∙◌, subst, arith, inl, inr, Contains, cases_lt, xor_lt, primal, Split, signature, IsJoined, edge_between, Mesh, IsMesh, pair, edges, IsSurface, ArePositive, edge_length, edge_number, place_of, walk_length, cells_of, edge_signature, small, number_of-none, least_such}
 use Rattle.surf_surfaces.proofs.meshes.CellLaws.{surfaces_are_cells}
 use Rattle.surf_surfaces.proofs.meshes.EdgeLaws.{contains_from_among}
 use Rattle.surf_surfaces.proofs.meshes.FaceLaws.{pair_comm}
 use Rattle.surf_surfaces.proofs.walks.GraphWalkLaws.{joined, between_is_number, from_joined}
 use Rattle.surf_classes.specs.Cover.{IsSet, LeadsWith, IsSignedDistance, IsTightFor}
-use Rattle.surf_z2.proofs.Sought.{least_such}
 use Rattle.surf_classes.proofs.SignedWalks.{walk_sum, turned, Goes, Found, seek}
 use Rattle.surf_classes.proofs.Rounds.{Signed, signed_walk, mesh_walk, turn}
 

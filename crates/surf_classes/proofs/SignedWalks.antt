@@ -1,10 +1,5 @@
 -- Walks of a graph whose edges have lengths and signatures: their sums, and the least of those of one length and signature.
-use Rattle.surf_surfaces.proofs.Common.{◌≡◌, ℕ, zero, suc, ◌+◌, ◌-◌, ◌<◌, ◌≤◌, ◌⊎◌, List, [], ◌∷◌, ◌++◌, bit_xor, refl, sym, ap, ◌∙◌, subst, arith, inl, inr, cases_eq, cases_lt, cases_Bool, false≢true, any_below, numbers, any_below-found, any_below-from, Graph, IsGraph, joins, IsJoined, edge_between, IsGraphWalk, graph_walk_length, joins_turned}
-use Rattle.surf_z2.proofs.Span.{add_zero, cancel}
-use Rattle.surf_graphs.specs.Loops.{IsSimple}
-use Rattle.surf_graphs.proofs.Graphs.{edge_between_is, walk-append}
-use Rattle.surf_graphs.proofs.Trees.{joined_in}
-use Rattle.surf_z2.proofs.Sought.{least_such}
+use Rattle.surf_surfaces.proofs.Common.{◌≡◌, ℕ, zero, suc, ◌+◌, ◌-◌, ◌<◌, ◌≤◌, ◌⊎◌, List, [], ◌∷◌, ◌++◌, bit_xor, refl, sym, ap, ◌∙◌, subst, arith, inl, inr, cases_eq, cases_lt, cases_Bool, false≢true, any_below, numbers, any_below-found, any_below-from, Graph, IsGraph, joins, IsJoined, edge_between, IsGraphWalk, graph_walk_length, joins_turned, add_zero, cancel, IsSimple, edge_between_is, walk-append, joined_in, least_such}
 
 -- ---- sums of sets
 

@@ -1,6 +1,5 @@
 -- A certified table has the distances.
-use Rattle.surf_surfaces.proofs.Common.{◌≡◌, ℕ, zero, suc, ◌+◌, ◌-◌, ◌<◌, ◌≤◌, ◌⊎◌, List, [], ◌∷◌, bit_xor, sym, ap, ◌∙◌, subst, arith, inl, inr, cases_eq, numbers, primal, Split, IsJoined, edge_between, edge_between_is, Mesh, ends, IsSurface, ArePositive, edge_length, cells_of, edge_signature, walk_signature}
-use Rattle.surf_graphs.proofs.Trees.{joined_in, one_of}
+use Rattle.surf_surfaces.proofs.Common.{◌≡◌, ℕ, zero, suc, ◌+◌, ◌-◌, ◌<◌, ◌≤◌, ◌⊎◌, List, [], ◌∷◌, bit_xor, sym, ap, ◌∙◌, subst, arith, inl, inr, cases_eq, numbers, primal, Split, IsJoined, edge_between, edge_between_is, Mesh, ends, IsSurface, ArePositive, edge_length, cells_of, edge_signature, walk_signature, joined_in, one_of}
 use Rattle.surf_surfaces.proofs.meshes.CellLaws.{surfaces_are_cells}
 use Rattle.surf_classes.specs.Cover.{IsSet, AreSignedDistances, IsCertified}
 use Rattle.surf_classes.specs.ShortestLaws.{CertifiedTablesAreDistances, CertifiedTablesChoose}

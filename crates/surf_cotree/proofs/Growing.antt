@@ -1,8 +1,6 @@
 use Rattle.std.proofs.Common.{ℕ, suc, ◌<◌, ◌≤◌, ◌≡◌, ◌≢◌, ◌+◌, ◌-◌, ◌⊎◌, refl, sym, ap, ◌∙◌, subst, arith, inl, inr, List, length, set, None, Bool, true, false, cond, not, ◌&&◌, ◌||◌, eqb, ltb, leb, eq-eqb, ne_eqb, eqb-true, get_or-set_same, get_or-set_other}
-use Rattle.surf_surfaces.proofs.Common.{cases_eq, cases_Bool, lt-ltb, le-ltb, le-leb, leb-true, ltb-true, and_parts, or_cases, false≢true, not-true, Tree, IsTree, on_path, xor-same, joins_turned, joins_ends, count_below, count_below-without, count_below-same, count_below-all}
-use Rattle.surf_graphs.specs.Graphs.{Graph, IsGraph, joins, leaves}
+use Rattle.surf_surfaces.proofs.Common.{cases_eq, cases_Bool, lt-ltb, le-ltb, le-leb, leb-true, ltb-true, and_parts, or_cases, false≢true, not-true, Tree, IsTree, on_path, xor-same, joins_turned, joins_ends, count_below, count_below-without, count_below-same, count_below-all, Graph, IsGraph, joins, leaves, one_of, path_inside}
 use Rattle.surf_graphs.specs.Growth.{with_node, with_edge, inner_end, between}
-use Rattle.surf_graphs.proofs.Trees.{one_of, path_inside}
 use Rattle.surf_graphs.proofs.Growth.{grow_one, old_node}
 use Rattle.surf_graphs.proofs.Heavy.{grow_heavy}
 use Rattle.surf_heap.specs.Entries.{Entries, entry_of, IsLeastEntry, IsEmpty}

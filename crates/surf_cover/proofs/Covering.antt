@@ -1,8 +1,6 @@
 -- The cover by a table of signatures is the cover.
-use Rattle.surf_surfaces.proofs.Common.{◌≡◌, ◌≢◌, ℕ, ◌*◌, ◌/◌, ◌<◌, ◌≤◌, Bool, true, false, not, ◌&&◌, cond, eqb, List, length, map, slice_index, bit_xor, sym, ap, ◌∙◌, subst, arith, inl, inr, cases_lt, cases_Bool, and_parts, eqb-true, eq-eqb, ne_eqb, length-map, get_or-map, get_or_past, map-map, div_below, div-mul-add, any_below-found, Tree, IsTree, in_tree, Mesh, edge_count, ends, IsSurface, cells_of, edge_signature}
-use Rattle.surf_z2.proofs.Below.{same_from, number_of-none}
+use Rattle.surf_surfaces.proofs.Common.{◌≡◌, ◌≢◌, ℕ, ◌*◌, ◌/◌, ◌<◌, ◌≤◌, Bool, true, false, not, ◌&&◌, cond, eqb, List, length, map, slice_index, bit_xor, sym, ap, ◌∙◌, subst, arith, inl, inr, cases_lt, cases_Bool, and_parts, eqb-true, eq-eqb, ne_eqb, length-map, get_or-map, get_or_past, map-map, div_below, div-mul-add, any_below-found, Tree, IsTree, in_tree, Mesh, edge_count, ends, IsSurface, cells_of, edge_signature, same_from, number_of-none, Graph, IsGraph, IsConnectedGraph, joins}
 use Rattle.surf_graphs.specs.Cells.{Split, IsSplit, primal, dual, signature, parts}
-use Rattle.surf_graphs.specs.Graphs.{Graph, IsGraph, IsConnectedGraph, joins}
 use Rattle.surf_surfaces.proofs.meshes.CellLaws.{ends_below}
 use Rattle.surf_classes.specs.Cover.{IsSet, IsCertified}
 use Rattle.surf_classes.specs.CoverGraph.{set_count, cover, cover_node, cover_edge, cover_length}

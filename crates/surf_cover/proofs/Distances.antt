@@ -1,7 +1,5 @@
 -- What a search over the cover has reached within a radius are the least lengths of walks by their signatures.
-use Rattle.surf_surfaces.proofs.Common.{◌≡◌, ◌≢◌, ℕ, zero, suc, ◌+◌, ◌-◌, ◌*◌, ◌/◌, ◌<◌, ◌≤◌, Bool, true, false, cond, eqb, List, [], ◌∷◌, slice_index, bit_xor, refl, sym, ap, ◌∙◌, subst, arith, inl, inr, cases_eq, Split, IsSplit, primal, IsJoined, edge_between, edge_between_is, joins_turned, Mesh, edge_count, ends, IsSurface, ArePositive, edge_length, cells_of, edge_signature}
-use Rattle.std.proofs.lemmas.Nat.{div_below, div-mul-add, same_from_place}
-use Rattle.surf_graphs.proofs.Trees.{joined_in}
+use Rattle.surf_surfaces.proofs.Common.{◌≡◌, ◌≢◌, ℕ, zero, suc, ◌+◌, ◌-◌, ◌*◌, ◌/◌, ◌<◌, ◌≤◌, Bool, true, false, cond, eqb, List, [], ◌∷◌, slice_index, bit_xor, refl, sym, ap, ◌∙◌, subst, arith, inl, inr, cases_eq, Split, IsSplit, primal, IsJoined, edge_between, edge_between_is, joins_turned, Mesh, edge_count, ends, IsSurface, ArePositive, edge_length, cells_of, edge_signature, div_below, div-mul-add, same_from_place, joined_in}
 use Rattle.surf_lengths.specs.Lengths.{longest}
 use Rattle.surf_surfaces.proofs.meshes.CellLaws.{surfaces_are_cells}
 use Rattle.surf_classes.specs.Cover.{IsSet, IsSignedDistance}

@@ -1,8 +1,5 @@
 -- A walk whose signature has a number runs an edge whose signature has it.
-use Rattle.surf_surfaces.proofs.Common.{◌≡◌, ℕ, ◌+◌, ◌-◌, ◌<◌, ◌≤◌, true, false, eqb, List, [], ◌∷◌, bit_xor, refl, sym, ap, ◌∙◌, arith, inl, inr, cases_Bool, false≢true, xor, has, numbers, Graph, edge_between, edge_between_is, one_of}
-use Rattle.std.proofs.lemmas.Nat.Bits.{bit_at-zero}
-use Rattle.surf_z2.proofs.Numbers.{has-xor}
-use Rattle.surf_z2.proofs.Span.{add_zero}
+use Rattle.surf_surfaces.proofs.Common.{◌≡◌, ℕ, ◌+◌, ◌-◌, ◌<◌, ◌≤◌, true, false, eqb, List, [], ◌∷◌, bit_xor, refl, sym, ap, ◌∙◌, arith, inl, inr, cases_Bool, false≢true, xor, has, numbers, Graph, edge_between, edge_between_is, one_of, bit_at-zero, has-xor, add_zero}
 use Rattle.surf_classes.proofs.SignedWalks.{Goes, goes_over, after, xor_on}
 
 module _ (g : Graph) (len sig : ℕ → ℕ) (k : ℕ) where

@@ -1,6 +1,5 @@
 -- What a signed tree of faces has, and the steps of a walk from a place on.
-use Rattle.surf_surfaces.proofs.Common.{◌≡◌, ℕ, suc, ◌+◌, ◌^◌, ◌<◌, ◌≤◌, List, ◌∷◌, length, get_or, slice_index, drop, map, All, sym, ap, ◌∙◌, subst, arith, range_with_len, pow-le-pow_right, get_or-map-range_with_len, length-map-range_with_len, IsSplit, Tree, left_edges, Mesh, steps, edge_count, face_count, loop_count, cells_of, edge_signature}
-use Rattle.std.proofs.Math.Seq.{drop-cons}
+use Rattle.surf_surfaces.proofs.Common.{◌≡◌, ℕ, suc, ◌+◌, ◌^◌, ◌<◌, ◌≤◌, List, ◌∷◌, length, get_or, slice_index, drop, map, All, sym, ap, ◌∙◌, subst, arith, range_with_len, pow-le-pow_right, get_or-map-range_with_len, length-map-range_with_len, IsSplit, Tree, left_edges, Mesh, steps, edge_count, face_count, loop_count, cells_of, edge_signature, drop-cons}
 use Rattle.surf_classes.specs.CoverGraph.{set_count}
 use Rattle.surf_classes.proofs.SignedSteps.{edge_set}
 use Rattle.surf_cotree.specs.Grown.{IsGrownOn}

@@ -1,8 +1,5 @@
 -- Tight steps over the cover are tight steps of the mesh with signatures.
-use Rattle.std.proofs.Common.{◌≡◌, ◌≢◌, ℕ, ◌+◌, ◌*◌, ◌/◌, ◌%◌, ◌<◌, ◌≤◌, Bool, true, false, cond, eqb, List, slice_index, bit_xor, refl, sym, ap, ◌∙◌, subst, add-zero, arith}
-use Rattle.std.proofs.lemmas.Nat.{div_below, div-mul-add, mod-mul-add, div-add-mod', mod_below, row_fits}
-use Rattle.surf_surfaces.proofs.Common.{Split, IsSplit, primal, IsJoined, edge_between, edge_between_is, Mesh, edge_count, ends, IsSurface, ArePositive, edge_length, edge_number, cells_of, edge_signature}
-use Rattle.surf_graphs.proofs.Trees.{joined_in}
+use Rattle.surf_surfaces.proofs.Common.{◌≡◌, ◌≢◌, ℕ, ◌+◌, ◌*◌, ◌/◌, ◌%◌, ◌<◌, ◌≤◌, Bool, true, false, cond, eqb, List, slice_index, bit_xor, refl, sym, ap, ◌∙◌, subst, add-zero, arith, div_below, div-mul-add, mod-mul-add, div-add-mod', mod_below, row_fits, Split, IsSplit, primal, IsJoined, edge_between, edge_between_is, Mesh, edge_count, ends, IsSurface, ArePositive, edge_length, edge_number, cells_of, edge_signature, joined_in}
 use Rattle.surf_surfaces.proofs.meshes.CellLaws.{surfaces_are_cells}
 use Rattle.surf_classes.specs.Cover.{IsSet, IsTightFor, IsLeastTight, IsCertified, step_signature}
 use Rattle.surf_classes.specs.CoverGraph.{set_count, cover, cover_node, cover_edge, cover_length}

@@ -1,7 +1,5 @@
 -- Sides of a mesh by their corners, and the edges of the border.
-use Rattle.surf_surfaces.proofs.Common.{◌≡◌, ℕ, ◌+◌, ◌-◌, ◌<◌, ◌⊎◌, inl, inr, sym, refl, subst, ap, ◌∙◌, [], length, get_or, take, arith, flat_map, get_or-map, length-map, Joined, here, over, Mesh, IsMesh, pair, pair_of, sides, after, face_count, face_at, ends, faces_with, HasEdge, first_side, IsFaceOf, side_count, pair_at, owners}
-use Rattle.std.proofs.lemmas.List.Concat.{length-flat_map, get_or-flat_map}
-use Rattle.surf_surfaces.specs.Disc.{IsDisc, IsBorderEdge, ShareOnBorder}
+use Rattle.surf_surfaces.proofs.Common.{◌≡◌, ℕ, ◌+◌, ◌-◌, ◌<◌, ◌⊎◌, inl, inr, sym, refl, subst, ap, ◌∙◌, [], length, get_or, take, arith, flat_map, get_or-map, length-map, Joined, here, over, Mesh, IsMesh, pair, pair_of, sides, after, face_count, face_at, ends, faces_with, HasEdge, first_side, IsFaceOf, side_count, pair_at, owners, length-flat_map, get_or-flat_map, IsDisc, IsBorderEdge, ShareOnBorder}
 use Rattle.surf_surfaces.proofs.meshes.CountLaws.{length-sides}
 use Rattle.surf_surfaces.proofs.meshes.SideLaws.{sides_are_by_place, side_place}
 use Rattle.surf_opening.proofs.sides.Edges.{edge_of, face_of}

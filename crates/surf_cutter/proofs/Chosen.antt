@@ -1,6 +1,5 @@
 -- What is opened along the full cut, or the trimmed one, is the chosen opening.
-use Rattle.surf_surfaces.proofs.Common.{◌≡◌, ℕ, ◌+◌, ◌<◌, not, sym, ap, ◌∙◌, List, length, Bool, true, false, Result, arith, All, IfOk, All-contains, IfOk-weaker, Tree, cotree_edges, Mesh, face_count, edge_count, IsSurface}
-use Rattle.surf_surfaces.specs.Disc.{IsOpening}
+use Rattle.surf_surfaces.proofs.Common.{◌≡◌, ℕ, ◌+◌, ◌<◌, not, sym, ap, ◌∙◌, List, length, Bool, true, false, Result, arith, All, IfOk, All-contains, IfOk-weaker, Tree, cotree_edges, Mesh, face_count, edge_count, IsSurface, IsOpening}
 use Rattle.surf_opening.specs.ChosenCut.{AreDivided, AreInOrder}
 use Rattle.surf_opening.specs.Laws.{TellsCut}
 use Rattle.surf_opening.specs.Named.{whole}

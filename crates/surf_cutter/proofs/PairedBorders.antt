@@ -1,7 +1,5 @@
 -- The border sides of an opening are the cut sides of the surface, two at each of their copies.
-use Rattle.surf_surfaces.proofs.Common.{◌≡◌, ℕ, ◌+◌, ◌<◌, ◌↔◌, inl, inr, sym, refl, subst, ap, ◌∙◌, Bool, List, [], length, get_or, take, zero, suc, ◌≤◌, arith, sum_by, IsDisc, here, Mesh, pair, after, face_count, face_at, ends, faces_with, HasEdge, IsSurface, first_side, IsFaceOf, IsEdgeOf, side_count, pair_at}
-use Rattle.std.proofs.lemmas.List.Sums.{sum_by_more}
-use Rattle.std.proofs.Math.Seq.{take-length}
+use Rattle.surf_surfaces.proofs.Common.{◌≡◌, ℕ, ◌+◌, ◌<◌, ◌↔◌, inl, inr, sym, refl, subst, ap, ◌∙◌, Bool, List, [], length, get_or, take, zero, suc, ◌≤◌, arith, sum_by, IsDisc, here, Mesh, pair, after, face_count, face_at, ends, faces_with, HasEdge, IsSurface, first_side, IsFaceOf, IsEdgeOf, side_count, pair_at, sum_by_more, take-length}
 use Rattle.surf_opening.specs.Opening.{corner_of, IsOpenedBy}
 use Rattle.surf_opening.proofs.sides.SideWords.{IsOpenedAlong, IsSides}
 use Rattle.surf_opening.specs.Rim.{along, back}

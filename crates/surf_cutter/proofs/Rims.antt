@@ -1,8 +1,7 @@
 -- The border sides at the copies, and the corners of a side by its face.
 use Rattle.std.proofs.Common.{◌≡◌, ◌≢◌, ℕ, zero, suc, ◌+◌, ◌-◌, ◌<◌, ◌≤◌, inl, inr, sym, refl, subst, ap, ◌∙◌, cond, List, [], ◌∷◌, length, get_or, take, replicate, eqb, arith, eqb-true}
-use Rattle.surf_surfaces.proofs.Common.{flat_map, sum_by, cases_Bool, cases_eq, eqb-false, Mesh, IsMesh, after, face_at, face_count, side_count, first_side, IsFaceOf}
+use Rattle.surf_surfaces.proofs.Common.{flat_map, sum_by, cases_Bool, cases_eq, eqb-false, Mesh, IsMesh, after, face_at, face_count, side_count, first_side, IsFaceOf, take-length}
 use Rattle.std.proofs.Math.ListN.{set}
-use Rattle.std.proofs.Math.Seq.{take-length}
 use Rattle.std.proofs.lemmas.List.{map-set, get_or-map, length-set, length-map, length-replicate, get_or-replicate, get_or-set_same, get_or-set_other}
 use Rattle.surf_surfaces.proofs.meshes.SideLaws.{after-below}
 use Rattle.surf_opening.specs.Opening.{IsOpenedBy}

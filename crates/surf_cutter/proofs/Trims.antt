@@ -1,9 +1,8 @@
 -- Counts of cut edges while a cut is trimmed.
 use Rattle.std.proofs.Common.{◌≡◌, ◌≢◌, ℕ, suc, ◌+◌, ◌-◌, ◌<◌, ◌≤◌, ◌⊎◌, ◌&&◌, not, inl, inr, sym, refl, subst, ap, ◌∙◌, eqb, List, ◌∷◌, length, get_or, Bool, true, false, IsTrue, arith, ne_eqb}
 use Rattle.std.proofs.Math.ListN.{set}
-use Rattle.surf_surfaces.proofs.Common.{cases_eq, cases_lt, and_from, and_parts, eq-eqb, Chain, count_below-same, count_below-without, eqb_comm, Mesh, pair, edge_count, ends, touches, IsSurface, slice_index}
+use Rattle.surf_surfaces.proofs.Common.{cases_eq, cases_lt, and_from, and_parts, eq-eqb, Chain, count_below-same, count_below-without, eqb_comm, Mesh, pair, edge_count, ends, touches, IsSurface, slice_index, count_found}
 use Rattle.std.proofs.lemmas.List.{get_or-set_same, get_or-set_other, length-set, get_or_default}
-use Rattle.surf_z2.proofs.Counting.{count_found}
 use Rattle.surf_surfaces.proofs.meshes.CellLaws.{ends_below}
 use Rattle.surf_surfaces.proofs.meshes.FaceLaws.{pair_comm}
 use Rattle.surf_opening.specs.Laws.{TellsCut, cut_count, without}

@@ -1,10 +1,7 @@
 -- The border: rows of the vertices along border edges, and what a walk over them reaches.
-use Rattle.surf_surfaces.proofs.Common.{◌≡◌, ℕ, ◌+◌, ◌*◌, ◌<◌, ◌≤◌, ◌⊎◌, Bool, true, eqb, List, [], ◌∷◌, ◌++◌, length, get_or, take, refl, sym, ap, subst, ◌∙◌, arith, inl, inr, true≢false, cases_eq, cases_lt, eq-eqb, eqb-true, ne_eqb, or_cases, or_left, or_right, lt-ltb, le-ltb, get_or_past, length-map, length_push, take_more, Joined, here, over, Mesh, IsMesh, pair, edges, ends, faces_with, place_of, side_count, pair_at, sides_with, owners}
+use Rattle.surf_surfaces.proofs.Common.{◌≡◌, ℕ, ◌+◌, ◌*◌, ◌<◌, ◌≤◌, ◌⊎◌, Bool, true, eqb, List, [], ◌∷◌, ◌++◌, length, get_or, take, refl, sym, ap, subst, ◌∙◌, arith, inl, inr, true≢false, cases_eq, cases_lt, eq-eqb, eqb-true, ne_eqb, or_cases, or_left, or_right, lt-ltb, le-ltb, get_or_past, length-map, length_push, take_more, Joined, here, over, Mesh, IsMesh, pair, edges, ends, faces_with, place_of, side_count, pair_at, sides_with, owners, flat_map-append, flat_map-cons, IsBorderEdge, ShareOnBorder}
 use Rattle.std.specs.List.{All, flat_map, list_any, sum_by}
-use Rattle.std.proofs.lemmas.Grind.{flat_map-append}
 use Rattle.std.proofs.lemmas.List.{append_assoc, append-nil, get_or_push, get_or_append_left, get_or_default}
-use Rattle.std.proofs.lemmas.List.Concat.{flat_map-cons}
-use Rattle.surf_surfaces.specs.Disc.{IsBorderEdge, ShareOnBorder}
 use Rattle.surf_surfaces.proofs.meshes.EdgeLaws.{list_any_at, list_any_from, list_any-append, list_any-flat_map}
 use Rattle.surf_surfaces.proofs.meshes.EdgeLaws.{place_of-among}
 use Rattle.surf_surfaces.proofs.meshes.FaceLaws.{pair_comm}

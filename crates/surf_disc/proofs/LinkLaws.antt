@@ -1,8 +1,6 @@
 -- Rows of corners across sides, and a last row from which a walk starts at the first corner of each vertex.
-use Rattle.surf_surfaces.proofs.Common.{◌≡◌, ℕ, suc, ◌+◌, ◌<◌, ◌≤◌, Bool, true, List, [], ◌∷◌, ◌++◌, length, get_or, map, refl, sym, ap, subst, ◌∙◌, arith, inl, inr, cases_eq, cases_lt, get_or_push, get_or_append_left, get_or_default, length_push, length-range_with_len, Joined, here, over, Mesh, IsMesh, ShareAt, IsFaceOf, side_count}
+use Rattle.surf_surfaces.proofs.Common.{◌≡◌, ℕ, suc, ◌+◌, ◌<◌, ◌≤◌, Bool, true, List, [], ◌∷◌, ◌++◌, length, get_or, map, refl, sym, ap, subst, ◌∙◌, arith, inl, inr, cases_eq, cases_lt, get_or_push, get_or_append_left, get_or_default, length_push, length-range_with_len, Joined, here, over, Mesh, IsMesh, ShareAt, IsFaceOf, side_count, sum_by_push, sum_by-cons, length-flat_map}
 use Rattle.std.specs.List.{All, sum_by, flat_map, range_with_len}
-use Rattle.std.proofs.lemmas.List.Sums.{sum_by_push, sum_by-cons}
-use Rattle.std.proofs.lemmas.List.Concat.{length-flat_map}
 use Rattle.std.proofs.lemmas.List.Folds.{flat_map-map}
 use Rattle.surf_surfaces.proofs.meshes.JoinedLaws.{joined_trans, joined_closed}
 use Rattle.surf_rows.specs.Groups.{group_of}

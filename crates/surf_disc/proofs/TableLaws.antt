@@ -1,13 +1,9 @@
 -- Border edges, their number and crowded edges, by the rows of an edge table.
-use Rattle.surf_surfaces.proofs.Common.{◌≡◌, ℕ, ◌+◌, ◌<◌, ◌≤◌, Bool, cond, eqb, List, [], ◌∷◌, length, get_or, map, take, refl, sym, ap, ◌∙◌, arith, inl, inr, true≢false, cases_Bool, length-map, sum_by-cons, edge_count, ends, faces_with}
-use Rattle.std.specs.List.{count_by}
-use Rattle.surf_surfaces.specs.Disc.{IsBorderEdge, ShareOnBorder}
-use Rattle.surf_surfaces.specs.Mesh.{Mesh, IsMesh, pair_lt, pair_eq, insert_pair, sorted_pairs, edges}
+use Rattle.surf_surfaces.proofs.Common.{◌≡◌, ℕ, ◌+◌, ◌<◌, ◌≤◌, Bool, cond, eqb, List, [], ◌∷◌, length, get_or, map, take, refl, sym, ap, ◌∙◌, arith, inl, inr, true≢false, cases_Bool, length-map, sum_by-cons, edge_count, ends, faces_with, count_by, IsBorderEdge, ShareOnBorder, Mesh, IsMesh, pair_lt, pair_eq, insert_pair, sorted_pairs, edges, side_count, side_pairs, sides_with, owners}
 use Rattle.surf_surfaces.proofs.meshes.JoinedLaws.{joined_trans, joined_sym}
 use Rattle.surf_soup.specs.EdgeTable.{IsEdgeTable}
 use Rattle.surf_soup.specs.Pairs.{NoneWithin, IsFirstWithin, degree}
 use Rattle.surf_soup.specs.Reach.{marked}
-use Rattle.surf_surfaces.specs.SideNumber.{side_count, side_pairs, sides_with, owners}
 use Rattle.surf_soup.proofs.EdgeTables.{length-side_pairs}
 use Rattle.surf_soup.proofs.Owners.{faces_with-sides}
 use Rattle.surf_soup.proofs.Paired.{rows_len, row_degree, no_crowds, face_at_place}

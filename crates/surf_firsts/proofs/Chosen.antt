@@ -1,13 +1,7 @@
 -- A list that is the greedy choice from another.
-use Rattle.std.proofs.Common.{◌≡◌, zero, suc, Bool, true, false, not, List, [], ◌∷◌, ◌++◌, map, filter, Contains, Decides, refl, sym, ap, ◌∙◌, subst, arith, inl, inr}
-use Rattle.surf_surfaces.proofs.Common.{AllByRecursion, cases_Bool, false≢true, All-from_recursion, All-contains, Sorted}
+use Rattle.surf_surfaces.proofs.Common.{◌≡◌, zero, suc, Bool, true, false, not, List, [], ◌∷◌, ◌++◌, map, filter, Contains, Decides, refl, sym, ap, ◌∙◌, subst, arith, inl, inr, AllByRecursion, cases_Bool, false≢true, All-from_recursion, All-contains, Sorted, Space, spans, greedy_after, in_left, in_right, filter_none, InSpan, Free, zero_in, head_in, add_in, cancel}
 use Rattle.std.proofs.lemmas.List.{append_assoc, append-nil}
-use Rattle.surf_z2.specs.Space.{Space}
-use Rattle.surf_z2.specs.Greedy.{spans, greedy_after}
-use Rattle.surf_z2.proofs.Basics.{in_left, in_right}
 use Rattle.surf_z2.proofs.Greedy.{spans_from_in, not_spans}
-use Rattle.surf_z2.proofs.Passing.{filter_none}
-use Rattle.surf_z2.proofs.Span.{InSpan, Free, zero_in, head_in, add_in, cancel}
 
 module _ {V : Type 0} (S : Space V) where
   -- of independent vectors none is a sum of those before it

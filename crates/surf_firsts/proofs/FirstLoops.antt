@@ -1,8 +1,5 @@
 -- The greedy choice from the loops of edges that are at most so long.
-use Rattle.surf_surfaces.proofs.Common.{◌≡◌, ◌≢◌, ℕ, zero, suc, ◌≤◌, Bool, true, false, not, cond, List, [], ◌∷◌, map, filter, Contains, refl, sym, ap, ◌∙◌, subst, arith, inl, inr, AllByRecursion, cases_Bool, false≢true, leb-true, le-leb, nat_tests, map-map, recursion_from_All, All-from_recursion, All-contains, greedy, Sorted, sorted_from_order, Decides-is_nothing, InSpan, Free, zero_in, free_from_independent, Split, IsSplit, Mesh, IsSurface, IsClosed, ArePositive, cells_of, class_of, loop_walk, loop_length, Trees, AreChosenAt, Loop, comes_before, walks, loop_at, loops_at, IsGreedyChoice}
-use Rattle.surf_z2.specs.Space.{Space, numbers, is_nothing, Independent}
-use Rattle.surf_z2.proofs.Passing.{all_filtered, sorted_filtered}
-use Rattle.surf_z2.proofs.Ranks.{free_filter}
+use Rattle.surf_surfaces.proofs.Common.{◌≡◌, ◌≢◌, ℕ, zero, suc, ◌≤◌, Bool, true, false, not, cond, List, [], ◌∷◌, map, filter, Contains, refl, sym, ap, ◌∙◌, subst, arith, inl, inr, AllByRecursion, cases_Bool, false≢true, leb-true, le-leb, nat_tests, map-map, recursion_from_All, All-from_recursion, All-contains, greedy, Sorted, sorted_from_order, Decides-is_nothing, InSpan, Free, zero_in, free_from_independent, Split, IsSplit, Mesh, IsSurface, IsClosed, ArePositive, cells_of, class_of, loop_walk, loop_length, Trees, AreChosenAt, Loop, comes_before, walks, loop_at, loops_at, IsGreedyChoice, Space, numbers, is_nothing, Independent, all_filtered, sorted_filtered, free_filter}
 use Rattle.surf_surfaces.proofs.classes.ClassLaws.{some_split, independent_by_classes, null_by_class}
 use Rattle.surf_surfaces.proofs.bases.GreedyChoiceLaws.{AreClosed, greedy_is_choice}
 use Rattle.surf_surfaces.proofs.classes.LeastLaws.{all_each, all_mapped}

@@ -1,15 +1,9 @@
 -- The loops at vertices near one whose loops are all long, next to those that are kept, where the ways through the
 -- vertices of a set are barred.
-use Rattle.surf_surfaces.proofs.Common.{◌≡◌, ℕ, suc, ◌+◌, ◌*◌, ◌<◌, ◌≤◌, Bool, true, false, leb, List, ◌∷◌, ◌++◌, map, filter, Contains, bit_xor, sym, ap, ◌∙◌, subst, arith, inl, inr, AllByRecursion, or_cases, leb-true, nat_tests, All-from_recursion, All-contains, map-map, numbers, difference, Spanned, xor_comm, InSpan, add_in, in_from_spanned, spanned_from_in, primal, Split, IsSplit, IsGraphWalk, walk_chain, graph_walk_length, signature_of, Tree, loop, Mesh, edge_count, ends, IsSurface, IsClosed, edge_length, ArePositive, cells_of, class_of, AreShortestTrees, loop_walk, loop_length, DependsOn}
-use Rattle.surf_z2.proofs.Linear.{over_in}
-use Rattle.surf_z2.proofs.Passing.{all_filtered, some_or_none}
-use Rattle.surf_z2.proofs.Ranks.{in_wider}
-use Rattle.surf_graphs.proofs.Graphs.{walk-append}
+use Rattle.surf_surfaces.proofs.Common.{◌≡◌, ℕ, suc, ◌+◌, ◌*◌, ◌<◌, ◌≤◌, Bool, true, false, leb, List, ◌∷◌, ◌++◌, map, filter, Contains, bit_xor, sym, ap, ◌∙◌, subst, arith, inl, inr, AllByRecursion, or_cases, leb-true, nat_tests, All-from_recursion, All-contains, map-map, numbers, difference, Spanned, xor_comm, InSpan, add_in, in_from_spanned, spanned_from_in, primal, Split, IsSplit, IsGraphWalk, walk_chain, graph_walk_length, signature_of, Tree, loop, Mesh, edge_count, ends, IsSurface, IsClosed, edge_length, ArePositive, cells_of, class_of, AreShortestTrees, loop_walk, loop_length, DependsOn, over_in, all_filtered, some_or_none, in_wider, walk-append, over_spanned, walk_parts, Place, is_no_later, place_at, least_base, Found, is_within, walks_found, walks_within, AreEnoughOf}
 use Rattle.surf_graphs.proofs.Independence.{signature_of-same, signature_of-linear, walk_sums}
 use Rattle.surf_graphs.proofs.Lengths.{loop_bound}
-use Rattle.surf_graphs.proofs.Through.{over_spanned, walk_parts}
 use Rattle.surf_graphs.proofs.Walks.{walk_in, same_off}
-use Rattle.surf_surfaces.specs.FewBases.{Place, is_no_later, place_at, least_base, Found, is_within, walks_found, walks_within, AreEnoughOf}
 use Rattle.surf_surfaces.proofs.meshes.CellLaws.{surfaces_are_cells}
 use Rattle.surf_surfaces.proofs.classes.ClassLaws.{some_split}
 use Rattle.surf_surfaces.proofs.bases.FewBasesLaws.{no_later_from, no_later-trans, least_base_on_way, least_base_no_greater, loop_class}

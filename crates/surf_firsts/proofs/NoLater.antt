@@ -1,10 +1,7 @@
 -- The loop of each edge at a base is a sum of chosen loops there that come no later.
 use Rattle.std.proofs.Common.{◌≡◌, ℕ, ◌<◌, true, false, not, eqb-true, List, length, get_or, map, Contains, refl, sym, ap, ◌∙◌, subst, arith, inl, inr}
-use Rattle.surf_surfaces.proofs.Common.{AllByRecursion, cases_Bool, false≢true, nat_tests, map-map, Contains-get_or, Contains-permutation, same_from, InSpan, in_from_spanned, spanned_from_in, primal, dual, Split, IsSplit, signature, chain_signature, signature_of, loop, in_tree, Mesh, edge_count, IsSurface, IsClosed, ArePositive, parity, cells_of, class_of, loop_walk, loop_length, Trees, AreChosenAt, Loop, comes_before, walks, loop_at, loops_at, DependsOn}
-use Rattle.surf_z2.specs.Space.{Chain, chains, numbers}
+use Rattle.surf_surfaces.proofs.Common.{AllByRecursion, cases_Bool, false≢true, nat_tests, map-map, Contains-get_or, Contains-permutation, same_from, InSpan, in_from_spanned, spanned_from_in, primal, dual, Split, IsSplit, signature, chain_signature, signature_of, loop, in_tree, Mesh, edge_count, IsSurface, IsClosed, ArePositive, parity, cells_of, class_of, loop_walk, loop_length, Trees, AreChosenAt, Loop, comes_before, walks, loop_at, loops_at, DependsOn, Chain, chains, numbers, sorted-permutes, all_filtered, member_in}
 use Rattle.surf_z2.proofs.Linear.{sum_over, over_in, linear-sum_over}
-use Rattle.surf_z2.proofs.Merge.{sorted-permutes}
-use Rattle.surf_z2.proofs.Passing.{all_filtered, member_in}
 use Rattle.surf_graphs.proofs.Independence.{signature_of-same, signature_of-linear, over_signature}
 use Rattle.surf_graphs.proofs.Lengths.{loop_signature, sum_of_left}
 use Rattle.surf_surfaces.specs.Cotree.{is_left, left_edges, split_of, precedes}

@@ -1,10 +1,6 @@
 -- The two closed walks of which a loop is the sum, each over the loop's root.
-use Rattle.surf_surfaces.proofs.Common.{◌≡◌, ℕ, zero, suc, ◌+◌, ◌<◌, ◌≤◌, Bool, true, eqb, sym, ap, ◌∙◌, subst, arith, inl, inr, ◌⊎◌, refl, List, [], ◌∷◌, ◌++◌, Contains, xor, Graph, IsGraph, joins, IsGraphWalk, walk_chain, graph_walk_length}
-use Rattle.surf_z2.proofs.ParityLaws.{xor_comm, xor_assoc, xor_meet}
+use Rattle.surf_surfaces.proofs.Common.{◌≡◌, ℕ, zero, suc, ◌+◌, ◌<◌, ◌≤◌, Bool, true, eqb, sym, ap, ◌∙◌, subst, arith, inl, inr, ◌⊎◌, refl, List, [], ◌∷◌, ◌++◌, Contains, xor, Graph, IsGraph, joins, IsGraphWalk, walk_chain, graph_walk_length, xor_comm, xor_assoc, xor_meet, IsSimple, way_down, way_up, joined_below, joined_in, step_short}
 use Rattle.surf_graphs.specs.Trees.{Tree, IsTree, on_path, loop, IsShortest, graph_loop_length}
-use Rattle.surf_graphs.specs.Loops.{IsSimple, way_down, way_up}
-use Rattle.surf_graphs.proofs.Trees.{joined_below, joined_in}
-use Rattle.surf_graphs.proofs.Lengths.{step_short}
 use Rattle.surf_graphs.proofs.Loops.{joins_turned, joins_ends, Runs, runs-append, runs_step, runs_down, runs_up}
 use Rattle.surf_graphs.proofs.Through.{both_ways}
 

@@ -1,8 +1,6 @@
 -- What the code of chains needs of numbers and lists.
-use Rattle.surf_surfaces.proofs.Common.{◌≡◌, ℕ, ◌+◌, ◌-◌, ◌*◌, ◌<◌, ◌≤◌, not, List, [], ◌∷◌, ◌++◌, length, get_or, map, take, drop, slice_index, sym, ap, ◌∙◌, arith, list_any, sum_by, ◌==◌, mul-le, Mesh, face_count, face_at}
+use Rattle.surf_surfaces.proofs.Common.{◌≡◌, ℕ, ◌+◌, ◌-◌, ◌*◌, ◌<◌, ◌≤◌, not, List, [], ◌∷◌, ◌++◌, length, get_or, map, take, drop, slice_index, sym, ap, ◌∙◌, arith, list_any, sum_by, ◌==◌, mul-le, Mesh, face_count, face_at, sum_by-cons, sum_by-append, count_few}
 use Rattle.std.proofs.lemmas.List.{append_assoc, map-append, get_or_default}
-use Rattle.std.proofs.lemmas.List.Sums.{sum_by-cons, sum_by-append}
-use Rattle.surf_z2.proofs.Counting.{count_few}
 use Rattle.surf_tori.specs.Torus.{torus}
 use Rattle.surf_tori.specs.ConnectedSum.{others_before}
 use Rattle.surf_tori.specs.Chain.{longer_chain}

@@ -1,8 +1,6 @@
 -- Numbers by their digits.
-use Rattle.surf_surfaces.proofs.Common.{◌≡◌, ℕ, zero, suc, ◌+◌, ◌-◌, ◌*◌, ◌^◌, ◌<◌, ◌≤◌, true, false, List, [], ◌∷◌, ◌++◌, length, take, drop, get_or, sym, ap, ◌∙◌, arith, inl, inr, nat_le, nat_lt, ◌&&◌, ◌==◌, Some, list_all, and_parts, and_from, leb-true, cases_Bool, take-append-drop}
-use Rattle.std.specs.Char.{is_ascii_digit}
+use Rattle.surf_surfaces.proofs.Common.{◌≡◌, ℕ, zero, suc, ◌+◌, ◌-◌, ◌*◌, ◌^◌, ◌<◌, ◌≤◌, true, false, List, [], ◌∷◌, ◌++◌, length, take, drop, get_or, sym, ap, ◌∙◌, arith, inl, inr, nat_le, nat_lt, ◌&&◌, ◌==◌, Some, list_all, and_parts, and_from, leb-true, cases_Bool, take-append-drop, is_ascii_digit, fold-append}
 use Rattle.std.proofs.lemmas.List.Folds.{list_all-append}
-use Rattle.std.proofs.lemmas.List.Sums.{fold-append}
 use Rattle.std.proofs.Math.Nat.{pow-succ', pow-le-pow_right}
 use Rattle.surf_text.specs.Text.{value_of, whole, is_nonempty}
 use Rattle.surf_geom.specs.Digits.{pushed}

@@ -1,6 +1,5 @@
 -- The lines of a written length file, and what each of them says.
-use Rattle.surf_surfaces.proofs.Common.{◌≡◌, ◌<◌, ◌+◌, ◌^◌, ℕ, false, List, [], ◌∷◌, ◌++◌, Some, None, Option, Ok, refl, sym, ◌∙◌, ap, append_assoc, arith, codes, decimal, bytes_eq, lt-ltb, le-leb, false_from_ne_true, append-nil, Mesh, edge_count, ends}
-use Rattle.std.proofs.lemmas.Slice.Eq.{bytes_eq-Decides}
+use Rattle.surf_surfaces.proofs.Common.{◌≡◌, ◌<◌, ◌+◌, ◌^◌, ℕ, false, List, [], ◌∷◌, ◌++◌, Some, None, Option, Ok, refl, sym, ◌∙◌, ap, append_assoc, arith, codes, decimal, bytes_eq, lt-ltb, le-leb, false_from_ne_true, append-nil, Mesh, edge_count, ends, bytes_eq-Decides}
 use Rattle.surf_text.specs.Text.{tokens_of, whole}
 use Rattle.surf_off.specs.Clean.{IsClean}
 use Rattle.surf_off.proofs.Decimals.{whole_decimal}

@@ -1,6 +1,5 @@
 -- Measures are greatest.
-use Rattle.surf_surfaces.proofs.Common.{◌≡◌, ℕ, zero, suc, ◌+◌, ◌-◌, ◌*◌, ◌/◌, ◌%◌, ◌^◌, ◌<◌, ◌≤◌, Bool, true, false, refl, sym, ap, ◌∙◌, subst, arith, inl, inr, nat_le, cases_Bool, cases_eq, cases_lt, cases_order, leb-true, le-leb, both_ways, mul-le, div-add-mod', mod_below}
-use Rattle.std.proofs.Math.Nat.{one-le-pow}
+use Rattle.surf_surfaces.proofs.Common.{◌≡◌, ℕ, zero, suc, ◌+◌, ◌-◌, ◌*◌, ◌/◌, ◌%◌, ◌^◌, ◌<◌, ◌≤◌, Bool, true, false, refl, sym, ap, ◌∙◌, subst, arith, inl, inr, nat_le, cases_Bool, cases_eq, cases_lt, cases_order, leb-true, le-leb, both_ways, mul-le, div-add-mod', mod_below, one-le-pow}
 use Rattle.surf_geom.specs.Root.{IsRoot}
 use Rattle.surf_geom.specs.Measures.{greatest, unit_square, measure_of}
 use Rattle.surf_geom.specs.Laws.{IsMeasure}

@@ -1,9 +1,7 @@
 -- The fixed amount of a number is one of the digits that are kept.
 use Rattle.std.proofs.Common.{◌≡◌, ℕ, ◌+◌, ◌-◌, ◌*◌, ◌/◌, ◌%◌, ◌^◌, ◌<◌, ◌≤◌, List, ◌++◌, length, take, drop, Some, None, Ok, Err, refl, sym, ap, ◌∙◌, arith, inl, inr, add-zero, append_assoc, length-append, length-drop}
-use Rattle.surf_surfaces.proofs.Common.{nat_lt, not, take-append-drop}
-use Rattle.std.proofs.lemmas.Bool.{cases_lt, lt-ltb, le-ltb, le-leb, lt-leb}
+use Rattle.surf_surfaces.proofs.Common.{nat_lt, not, take-append-drop, cases_lt, lt-ltb, le-ltb, le-leb, lt-leb, one-le-pow, pow-le-pow_right}
 use Rattle.std.proofs.lemmas.Nat.{mul-le, pow-add, div-mul-add, div-add-mod', mod_below}
-use Rattle.std.proofs.Math.Nat.{one-le-pow, pow-le-pow_right}
 use Rattle.surf_text.specs.Text.{value_of}
 use Rattle.surf_geom.specs.Digits.{pushed, pushed_to, in_range}
 use Rattle.surf_geom.specs.Fixed.{Decimal, numerator, denominator, is_great, fixed_amount, signed, fixed_if}

@@ -1,8 +1,6 @@
 -- Lengths that are written are read as what was handed in.
-use Rattle.std.proofs.Common.{◌≡◌, ◌<◌, ◌≤◌, ◌+◌, ◌^◌, eqb, ℕ, zero, suc, Bool, true, false, List, [], ◌∷◌, ◌++◌, length, get_or, set, replicate, map, Some, None, Option, Ok, Err, Result, unwrap_or, refl, sym, ◌∙◌, ap, append_assoc, arith, codes, inl, inr}
-use Rattle.std.specs.List.{zip, fold, position, position_or_len, range_with_len}
+use Rattle.surf_surfaces.proofs.Common.{◌≡◌, ◌<◌, ◌≤◌, ◌+◌, ◌^◌, eqb, ℕ, zero, suc, Bool, true, false, List, [], ◌∷◌, ◌++◌, length, get_or, set, replicate, map, Some, None, Option, Ok, Err, Result, unwrap_or, refl, sym, ◌∙◌, ap, append_assoc, arith, codes, inl, inr, zip, fold, position, position_or_len, range_with_len, le-ltb, ne_eqb, length-range_with_len, Mesh, IsMesh, edges, edge_count, ends}
 use Rattle.std.proofs.Math.Seq.{set-append_seam}
-use Rattle.surf_surfaces.proofs.Common.{le-ltb, ne_eqb, length-range_with_len, Mesh, IsMesh, edges, edge_count, ends}
 use Rattle.std.proofs.lemmas.Slice.Zip.{length-zip, seconds-zip}
 use Rattle.surf_surfaces.proofs.meshes.CellLaws.{ends_below}
 use Rattle.surf_text.specs.Text.{TextLine, lines_of}

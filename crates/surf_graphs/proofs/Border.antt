@@ -1,7 +1,6 @@
 -- The border of a disc is connected.
 use Rattle.std.proofs.Common.{◌≡◌, ◌≢◌, ℕ, ◌+◌, ◌<◌, Bool, true, false, ◌&&◌, eqb, refl, sym, ◌∙◌, ap, arith, inl, inr, length, eqb-true}
-use Rattle.std.proofs.lemmas.Bool.{cases_Bool, and_parts, false≢true, eqb-false, not-true}
-use Rattle.surf_z2.specs.Parity.{xor, any_below}
+use Rattle.surf_z2.proofs.Common.{cases_Bool, and_parts, false≢true, eqb-false, not-true, xor, any_below}
 use Rattle.surf_graphs.specs.Graphs.{leaves, graph_touches, IsEven}
 use Rattle.surf_graphs.specs.Cells.{Cells, primal, dual, IsCellComplex}
 use Rattle.surf_z2.proofs.ParityLaws.{xor_comm, and-false, odd_below-same, odd_below-none, odd_below-and, any_below-found, any_below-none}

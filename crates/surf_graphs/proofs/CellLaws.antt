@@ -1,7 +1,6 @@
 -- Boundaries, and the signatures of null chains.
-use Rattle.std.proofs.Common.{true, ◌≡◌, ◌≢◌, ℕ, ◌<◌, Bool, false, ◌&&◌, eqb, refl, sym, ◌∙◌, ap, arith, ne_eqb, eq-eqb, inl, inr, ◌↔◌, List, [], ◌∷◌, length, get_or}
+use Rattle.surf_z2.proofs.Common.{true, ◌≡◌, ◌≢◌, ℕ, ◌<◌, Bool, false, ◌&&◌, eqb, refl, sym, ◌∙◌, ap, arith, ne_eqb, eq-eqb, inl, inr, ◌↔◌, List, [], ◌∷◌, length, get_or, xor, odd_below}
 use Rattle.std.proofs.lemmas.Bool.{and_parts, cases_eq, cases_Bool, cases_order, false≢true, true_from_ne_false}
-use Rattle.surf_z2.specs.Parity.{xor, odd_below}
 use Rattle.surf_graphs.specs.Graphs.{leaves, graph_touches, IsEven, IsGraphWalk, walk_chain, edge_between}
 use Rattle.surf_graphs.specs.Trees.{Tree, IsTree, in_tree, on_path}
 use Rattle.surf_graphs.specs.Cells.{Cells, primal, dual, IsCellComplex, cell_boundary, IsNullChain, Split, IsSplit, parts, signature, chain_signature, graph_walk_signature}

@@ -1,7 +1,5 @@
 -- How many edges a tree has, and how many are left.
-use Rattle.std.proofs.Common.{◌≡◌, ℕ, suc, ◌+◌, Bool, true, not, ◌&&◌, eqb, refl, ap, arith, ne_eqb, inl, inr, length, get_or}
-use Rattle.std.proofs.lemmas.Bool.{cases_Bool, and_parts, eqb-false, not-true}
-use Rattle.surf_z2.specs.Parity.{count_below}
+use Rattle.surf_z2.proofs.Common.{◌≡◌, ℕ, suc, ◌+◌, Bool, true, not, ◌&&◌, eqb, refl, ap, arith, ne_eqb, inl, inr, length, get_or, cases_Bool, and_parts, eqb-false, not-true, count_below}
 use Rattle.surf_graphs.specs.Graphs.{Graph}
 use Rattle.surf_graphs.specs.Trees.{Tree, IsTree, in_tree}
 use Rattle.surf_graphs.specs.Cells.{Cells, primal, dual, Split, IsSplit}

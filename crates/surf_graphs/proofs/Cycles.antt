@@ -1,7 +1,5 @@
 -- Simple cycles, and which of them separate.
-use Rattle.std.proofs.Common.{◌≡◌, ◌≢◌, ℕ, ◌<◌, Bool, true, false, not, ◌&&◌, ◌||◌, eqb, refl, sym, ◌∙◌, ap, arith, ne_eqb, eq-eqb, inl, inr, ◌⊎◌, List, [], ◌∷◌}
-use Rattle.std.proofs.lemmas.Bool.{cases_eq, cases_Bool, and_parts, not-true, false_from_ne_true, false≢true, true_from_ne_false}
-use Rattle.surf_z2.specs.Parity.{xor, odd_below}
+use Rattle.surf_z2.proofs.Common.{◌≡◌, ◌≢◌, ℕ, ◌<◌, Bool, true, false, not, ◌&&◌, ◌||◌, eqb, refl, sym, ◌∙◌, ap, arith, ne_eqb, eq-eqb, inl, inr, ◌⊎◌, List, [], ◌∷◌, cases_eq, cases_Bool, and_parts, not-true, false_from_ne_true, false≢true, true_from_ne_false, xor, odd_below}
 use Rattle.surf_graphs.specs.Graphs.{Graph, IsGraph, graph_touches, joins, IsEven, IsGraphWalk, IsJoined, walk_chain, edge_between}
 use Rattle.surf_graphs.specs.Cells.{dual, Cells, primal, IsCellComplex, cell_boundary, IsNullChain}
 use Rattle.surf_graphs.specs.Cycles.{graph_runs, IsOff, IsDistinct, IsSimpleGraphCycle, Separates}

@@ -1,7 +1,6 @@
 -- Even chains and walks of a graph.
 use Rattle.std.proofs.Common.{◌≡◌, ℕ, ◌+◌, ◌<◌, Bool, true, false, ◌&&◌, eqb, refl, sym, ◌∙◌, ap, eqb-true, inl, inr, List, [], ◌∷◌, ◌++◌, arith}
-use Rattle.std.proofs.lemmas.Bool.{or_cases, and_parts}
-use Rattle.surf_z2.specs.Parity.{xor, odd_below}
+use Rattle.surf_z2.proofs.Common.{or_cases, and_parts, xor, odd_below}
 use Rattle.surf_graphs.specs.Graphs.{Graph, IsGraph, leaves, graph_touches, IsEven, joins, IsJoined, edge_between, IsGraphWalk, walk_chain, graph_walk_length}
 use Rattle.surf_z2.proofs.ParityLaws.{xor_meet, xor_comm, xor_assoc, xor-same, and_comm, and_assoc, and-false, odd_below-same, odd_below-none, odd_below-and, odd_below-xor-and, odd_below-swap, odd_below-at, least_below-found}
 

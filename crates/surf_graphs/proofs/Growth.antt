@@ -1,7 +1,6 @@
 -- Trees that grow by an edge to a new node.
 use Rattle.std.proofs.Common.{◌≡◌, ◌≢◌, ℕ, suc, ◌<◌, ◌≤◌, Bool, true, false, not, ◌&&◌, ◌||◌, eqb, refl, sym, ◌∙◌, ap, ne_eqb, eq-eqb, inl, inr, subst, not-suc-le-zero}
-use Rattle.std.proofs.lemmas.Bool.{cases_eq, false≢true, true_from_ne_false}
-use Rattle.surf_z2.specs.Parity.{count_below}
+use Rattle.surf_z2.proofs.Common.{cases_eq, false≢true, true_from_ne_false, count_below}
 use Rattle.surf_graphs.specs.Graphs.{Graph, joins}
 use Rattle.surf_graphs.specs.Trees.{Tree, IsTree}
 use Rattle.surf_graphs.specs.Growth.{Grown, with_node, with_edge}

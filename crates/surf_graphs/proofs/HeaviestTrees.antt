@@ -1,7 +1,6 @@
 -- Where allowed edges connect a graph, they have a heaviest spanning tree.
 use Rattle.std.proofs.Common.{◌≡◌, ◌≢◌, ℕ, zero, suc, ◌+◌, ◌<◌, ◌≤◌, Bool, true, false, not, ◌&&◌, eqb, refl, sym, ◌∙◌, ap, arith, inl, inr, ◌⊎◌, eqb-true, eq-eqb, ne_eqb}
-use Rattle.std.proofs.lemmas.Bool.{cases_eq, cases_Bool, and_parts, and_from, not-true, false≢true}
-use Rattle.surf_z2.specs.Parity.{any_below, count_below}
+use Rattle.surf_z2.proofs.Common.{cases_eq, cases_Bool, and_parts, and_from, not-true, false≢true, any_below, count_below}
 use Rattle.surf_z2.proofs.ParityLaws.{any_below-none}
 use Rattle.surf_graphs.specs.Graphs.{Graph, IsGraph, leaves}
 use Rattle.surf_graphs.specs.Growth.{Grown, with_node, with_edge, between, IsHeavy}

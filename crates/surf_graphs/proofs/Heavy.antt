@@ -1,7 +1,5 @@
 -- A tree that grows by a heaviest edge stays heavy.
-use Rattle.std.proofs.Common.{arith, suc, zero, ◌≤◌, ◌≡◌, ◌≢◌, ℕ, ◌<◌, Bool, true, false, cond, eqb, refl, sym, ◌∙◌, ap, ne_eqb, eq-eqb, inl, inr, ◌⊎◌, get_or}
-use Rattle.std.proofs.lemmas.Bool.{cases_eq, cases_Bool, false≢true, not-true}
-use Rattle.surf_z2.specs.Parity.{xor}
+use Rattle.surf_z2.proofs.Common.{arith, suc, zero, ◌≤◌, ◌≡◌, ◌≢◌, ℕ, ◌<◌, Bool, true, false, cond, eqb, refl, sym, ◌∙◌, ap, ne_eqb, eq-eqb, inl, inr, ◌⊎◌, get_or, cases_eq, cases_Bool, false≢true, not-true, xor}
 use Rattle.surf_graphs.specs.Graphs.{Graph, IsGraph, leaves}
 use Rattle.surf_graphs.specs.Trees.{Tree, in_tree, on_way, on_path, graph_loop_length}
 use Rattle.surf_graphs.specs.Cells.{Cells, primal, dual, IsCellComplex, Split, IsSplit, IsHeaviest}

@@ -1,11 +1,8 @@
 -- Which chains are independent, by their signatures, and which lists of closed walks are least.
 use Rattle.std.proofs.Common.{◌≡◌, ℕ, zero, suc, ◌+◌, ◌^◌, ◌<◌, ◌≤◌, Bool, cond, true, false, ◌&&◌, List, [], ◌∷◌, length, map, get_or, sum, leb, bit_xor, refl, sym, ◌∙◌, ap, subst, arith, le_trans, All}
-use Rattle.std.specs.List.{AllByRecursion}
-use Rattle.std.proofs.lemmas.Bool.{le-leb, leb-true}
+use Rattle.surf_z2.proofs.Common.{AllByRecursion, le-leb, leb-true, recursion_from_All, All-from_recursion, xor, odd_below}
 use Rattle.std.proofs.lemmas.List.{length-map, get_or-map}
 use Rattle.std.proofs.lemmas.Simd.{map-map}
-use Rattle.std.proofs.lemmas.List.Elements.{recursion_from_All, All-from_recursion}
-use Rattle.surf_z2.specs.Parity.{xor, odd_below}
 use Rattle.surf_z2.specs.Space.{Chain, chains, numbers, chosen, difference, sum_of, Spanned, Independent, Weighed, weights, vectors, up_to, SpannedUpToWeight, IsLinear}
 use Rattle.surf_z2.proofs.ParityLaws.{odd_below-same, odd_below-none, odd_below-xor-and}
 use Rattle.surf_z2.proofs.Below.{chosen-map, map_nil, same_from, same_below, number_of-none, number_of-sum, small}

@@ -1,7 +1,6 @@
 -- How long loops are, and their signatures.
 use Rattle.std.proofs.Common.{◌≡◌, ℕ, ◌+◌, ◌<◌, ◌≤◌, Bool, true, false, ◌&&◌, eqb, refl, sym, ◌∙◌, ap, arith, eqb-true, eq-eqb, ne_eqb, inl, inr, ◌⊎◌, List, [], ◌∷◌, length, get_or}
-use Rattle.std.proofs.lemmas.Bool.{cases_eq, cases_Bool, false≢true}
-use Rattle.surf_z2.specs.Parity.{xor, odd_below}
+use Rattle.surf_z2.proofs.Common.{cases_eq, cases_Bool, false≢true, xor, odd_below}
 use Rattle.surf_graphs.specs.Graphs.{Graph, IsGraphWalk, joins, walk_chain, graph_walk_length, edge_between}
 use Rattle.surf_graphs.specs.Trees.{Tree, in_tree, on_path, loop, IsShortest, graph_loop_length}
 use Rattle.surf_graphs.specs.Cells.{Cells, primal, dual, IsCellComplex, Split, IsSplit, signature, chain_signature, IsHeaviest}

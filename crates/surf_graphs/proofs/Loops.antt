@@ -1,7 +1,5 @@
 -- The loop of an edge is a closed walk.
-use Rattle.std.proofs.Common.{◌≡◌, ℕ, zero, suc, ◌+◌, ◌<◌, ◌≤◌, Bool, true, false, ◌&&◌, ◌||◌, eqb, refl, ◌∙◌, ap, arith, ne_eqb, eq-eqb, inl, inr, List, [], ◌∷◌, ◌++◌}
-use Rattle.std.proofs.lemmas.Bool.{cases_eq}
-use Rattle.surf_z2.specs.Parity.{xor}
+use Rattle.surf_z2.proofs.Common.{◌≡◌, ℕ, zero, suc, ◌+◌, ◌<◌, ◌≤◌, Bool, true, false, ◌&&◌, ◌||◌, eqb, refl, ◌∙◌, ap, arith, ne_eqb, eq-eqb, inl, inr, List, [], ◌∷◌, ◌++◌, cases_eq, xor}
 use Rattle.surf_graphs.specs.Graphs.{Graph, IsGraph, joins, IsGraphWalk, walk_chain, graph_walk_length, edge_between}
 use Rattle.surf_graphs.specs.Trees.{Tree, IsTree, on_way, on_path, loop, IsShortest, graph_loop_length}
 use Rattle.surf_graphs.specs.Loops.{IsSimple, way_down, way_up, graph_loop_walk}

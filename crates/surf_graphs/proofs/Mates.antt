@@ -1,7 +1,5 @@
 -- The two sides of each edge go round in pairs.
-use Rattle.std.proofs.Common.{◌≡◌, ◌≢◌, ℕ, zero, suc, ◌*◌, ◌/◌, ◌%◌, ◌<◌, true, cond, eqb, refl, sym, ◌∙◌, ap, arith, inl, inr, ◌⊎◌, eq-eqb, ne_eqb}
-use Rattle.std.proofs.lemmas.Bool.{cases_eq, eqb-true, eqb-false}
-use Rattle.surf_z2.specs.Parity.{count_below}
+use Rattle.surf_z2.proofs.Common.{◌≡◌, ◌≢◌, ℕ, zero, suc, ◌*◌, ◌/◌, ◌%◌, ◌<◌, true, cond, eqb, refl, sym, ◌∙◌, ap, arith, inl, inr, ◌⊎◌, eq-eqb, ne_eqb, cases_eq, eqb-true, eqb-false, count_below}
 use Rattle.surf_graphs.specs.Cells.{Cells}
 use Rattle.surf_graphs.specs.Sides.{Sides, IsSides}
 use Rattle.surf_graphs.specs.Rounds.{Blocks, Rounds}

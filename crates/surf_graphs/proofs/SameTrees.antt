@@ -1,7 +1,5 @@
 -- Two rooted trees with the same root and the same edges are the same.
-use Rattle.std.proofs.Common.{◌≡◌, ◌≢◌, ℕ, ◌<◌, ◌≤◌, Bool, true, false, ◌&&◌, eqb, refl, sym, ◌∙◌, ap, arith, inl, inr, ◌⊎◌, eq-eqb, ne_eqb}
-use Rattle.std.proofs.lemmas.Bool.{cases_eq, cases_Bool, false≢true}
-use Rattle.surf_z2.specs.Parity.{xor, odd_below}
+use Rattle.surf_z2.proofs.Common.{◌≡◌, ◌≢◌, ℕ, ◌<◌, ◌≤◌, Bool, true, false, ◌&&◌, eqb, refl, sym, ◌∙◌, ap, arith, inl, inr, ◌⊎◌, eq-eqb, ne_eqb, cases_eq, cases_Bool, false≢true, xor, odd_below}
 use Rattle.surf_z2.proofs.ParityLaws.{xor-same, xor_equal, and_comm, odd_below-same, odd_below-and-xor}
 use Rattle.surf_graphs.specs.Graphs.{Graph, IsGraph, IsEven, joins, leaves, graph_touches}
 use Rattle.surf_graphs.specs.Trees.{Tree, IsTree, in_tree, on_path}

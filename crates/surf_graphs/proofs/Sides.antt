@@ -1,7 +1,5 @@
 -- Faces that are run round by their sides.
-use Rattle.std.proofs.Common.{◌≡◌, ◌≢◌, ℕ, ◌<◌, Bool, false, ◌&&◌, eqb, sym, ◌∙◌, ap, ne_eqb, eq-eqb, inl, inr}
-use Rattle.std.proofs.lemmas.Bool.{cases_eq}
-use Rattle.surf_z2.specs.Parity.{xor, odd_below}
+use Rattle.surf_z2.proofs.Common.{◌≡◌, ◌≢◌, ℕ, ◌<◌, Bool, false, ◌&&◌, eqb, sym, ◌∙◌, ap, ne_eqb, eq-eqb, inl, inr, cases_eq, xor, odd_below}
 use Rattle.surf_graphs.specs.Graphs.{graph_touches, leaves, IsConnectedGraph}
 use Rattle.surf_graphs.specs.Cells.{Cells, primal, dual}
 use Rattle.surf_graphs.specs.Sides.{Sides, IsSides}

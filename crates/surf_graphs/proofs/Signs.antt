@@ -1,7 +1,6 @@
 -- Turns are even or odd.
-use Rattle.std.proofs.Common.{◌≡◌, ◌≢◌, ℕ, zero, suc, ◌<◌, Bool, true, false, not, ◌&&◌, ltb, refl, sym, ◌∙◌, ap, arith, inl, inr}
+use Rattle.surf_z2.proofs.Common.{◌≡◌, ◌≢◌, ℕ, zero, suc, ◌<◌, Bool, true, false, not, ◌&&◌, ltb, refl, sym, ◌∙◌, ap, arith, inl, inr, xor, odd_below}
 use Rattle.std.proofs.lemmas.Bool.{cases_eq, cases_lt, lt-ltb, le-ltb}
-use Rattle.surf_z2.specs.Parity.{xor, odd_below}
 use Rattle.surf_graphs.specs.Rounds.{IsTurn}
 use Rattle.surf_z2.proofs.ParityLaws.{xors, xor_equal, xor-and, and-xor, and-false, odd_below-same, odd_below-none, odd_below-xor}
 use Rattle.surf_graphs.proofs.Sides.{odd_turned}

@@ -1,7 +1,7 @@
 -- A closed walk in two, and an edge whose loop is no longer.
 use Rattle.std.proofs.Common.{◌≡◌, ◌≢◌, ℕ, ◌+◌, ◌<◌, ◌≤◌, Bool, true, false, not, ◌&&◌, eqb, refl, sym, ◌∙◌, ap, arith, inl, inr, ◌⊎◌, subst, List, [], ◌∷◌, ◌++◌, length, length-append}
 use Rattle.std.proofs.lemmas.Bool.{cases_eq, cases_lt, cases_Bool, and_parts, false≢true, true≢false, eqb-true, eqb-false, not-true}
-use Rattle.surf_z2.specs.Parity.{xor, any_below}
+use Rattle.surf_z2.proofs.Common.{xor, any_below, numbers}
 use Rattle.surf_graphs.specs.Graphs.{Graph, joins, IsGraphWalk, walk_chain, graph_walk_length, edge_between}
 use Rattle.surf_graphs.specs.Trees.{Tree, loop, IsShortest, graph_loop_length}
 use Rattle.surf_graphs.specs.Cells.{Cells, primal, IsCellComplex, IsNullChain, Split, IsSplit}
@@ -11,7 +11,6 @@ use Rattle.surf_z2.proofs.ParityLaws.{xors, any_below-found, any_below-none}
 use Rattle.surf_graphs.proofs.Graphs.{edge_between_is, walk_even}
 use Rattle.surf_graphs.proofs.Trees.{one_of}
 use Rattle.surf_graphs.proofs.Lengths.{loop_bound}
-use Rattle.surf_z2.specs.Space.{numbers}
 use Rattle.surf_z2.proofs.Linear.{over_in}
 use Rattle.surf_graphs.specs.Independence.{signature_of}
 use Rattle.surf_graphs.proofs.Independence.{null_zero, zero_null, walk_sums}

@@ -1,8 +1,5 @@
 -- Shortest trees at all nodes: distances, which nodes are on the way to others, and closed walks through a node.
-use Rattle.std.proofs.Common.{◌≡◌, ℕ, ◌+◌, ◌<◌, ◌≤◌, Bool, true, eqb, ne_eqb, refl, sym, ◌∙◌, ap, arith, subst, inl, inr, ◌⊎◌, List, [], ◌∷◌, ◌++◌, Contains, zero, suc}
-use Rattle.std.proofs.lemmas.Bool.{cases_eq, cases_Bool, false≢true}
-use Rattle.surf_z2.specs.Parity.{xor}
-use Rattle.surf_z2.specs.Space.{numbers}
+use Rattle.surf_z2.proofs.Common.{◌≡◌, ℕ, ◌+◌, ◌<◌, ◌≤◌, Bool, true, eqb, ne_eqb, refl, sym, ◌∙◌, ap, arith, subst, inl, inr, ◌⊎◌, List, [], ◌∷◌, ◌++◌, Contains, zero, suc, cases_eq, cases_Bool, false≢true, xor, numbers}
 use Rattle.surf_z2.proofs.ParityLaws.{xor_comm, xor_assoc, xor_meet, xor-false}
 use Rattle.surf_z2.proofs.Linear.{over_in}
 use Rattle.surf_z2.proofs.Span.{InSpan}

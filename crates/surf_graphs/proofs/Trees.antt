@@ -1,7 +1,6 @@
 -- Paths and loops of a tree.
 use Rattle.std.proofs.Common.{◌≡◌, ◌≢◌, ℕ, zero, suc, ◌<◌, ◌≤◌, Bool, true, false, not, ◌&&◌, eqb, refl, sym, ◌∙◌, ap, arith, eqb-true, eq-eqb, ne_eqb, inl, inr, subst, ◌⊎◌}
-use Rattle.std.proofs.lemmas.Bool.{or_cases, and_parts, cases_eq, cases_Bool, false≢true, not-true, eqb-false}
-use Rattle.surf_z2.specs.Parity.{xor, odd_below}
+use Rattle.surf_z2.proofs.Common.{or_cases, and_parts, cases_eq, cases_Bool, false≢true, not-true, eqb-false, xor, odd_below}
 use Rattle.surf_graphs.specs.Graphs.{Graph, IsGraph, leaves, IsEven, joins, IsJoined}
 use Rattle.surf_graphs.specs.Trees.{Tree, IsTree, in_tree, on_way, on_path, loop}
 use Rattle.surf_z2.proofs.ParityLaws.{eqb_comm, xor_back, xor_meet, and-true, xor-false, xor-same, and_comm, and-false, odd_below-same, odd_below-none, odd_below-and-xor, odd_below-at, any_below-found, any_below-from}

@@ -1,7 +1,5 @@
 -- Walks of a graph: their nodes, the ends of their edges, and their lengths off a set.
-use Rattle.std.proofs.Common.{◌≡◌, ℕ, suc, ◌<◌, Bool, true, false, List, [], ◌∷◌, Contains, refl, sym, ap, ◌∙◌, arith, ne_eqb, inl, inr}
-use Rattle.std.specs.List.{AllByRecursion}
-use Rattle.std.proofs.lemmas.Bool.{cases_eq, false≢true}
+use Rattle.surf_z2.proofs.Common.{◌≡◌, ℕ, suc, ◌<◌, Bool, true, false, List, [], ◌∷◌, Contains, refl, sym, ap, ◌∙◌, arith, ne_eqb, inl, inr, AllByRecursion, cases_eq, false≢true}
 use Rattle.surf_graphs.specs.Graphs.{Graph, IsGraph, joins, IsGraphWalk, edge_between, walk_chain, graph_walk_length}
 use Rattle.surf_graphs.proofs.Graphs.{edge_between_is}
 use Rattle.surf_graphs.proofs.Trees.{one_of, joined_in}

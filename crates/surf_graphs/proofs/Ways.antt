@@ -1,6 +1,5 @@
 -- The ways between the root of a tree and its nodes go from parent to parent.
-use Rattle.std.proofs.Common.{◌≡◌, ◌≢◌, ℕ, zero, suc, ◌<◌, ◌≤◌, inl, inr, refl, sym, ap, ◌∙◌, arith, ne_eqb, eq-eqb, [], ◌∷◌, ◌++◌}
-use Rattle.std.proofs.lemmas.Bool.{cases_eq}
+use Rattle.surf_z2.proofs.Common.{◌≡◌, ◌≢◌, ℕ, zero, suc, ◌<◌, ◌≤◌, inl, inr, refl, sym, ap, ◌∙◌, arith, ne_eqb, eq-eqb, [], ◌∷◌, ◌++◌, cases_eq}
 use Rattle.surf_graphs.specs.Graphs.{Graph}
 use Rattle.surf_graphs.specs.Trees.{Tree, IsTree}
 use Rattle.surf_graphs.specs.Loops.{way_down, way_up}

@@ -1,10 +1,6 @@
 -- Lines that name edges, one after the other, and the one table of their lengths.
-use Rattle.std.proofs.Common.{◌≡◌, ◌≢◌, ℕ, zero, suc, ◌<◌, ◌≤◌, ◌+◌, ◌⊎◌, eqb, Bool, true, false, List, [], ◌∷◌, ◌++◌, append_assoc, length, get_or, set, map, replicate, Option, Some, None, Result, Ok, Err, unwrap_or, refl, sym, ap, ◌∙◌, subst, arith, inl, inr, ◌&&◌}
-use Rattle.std.specs.List.{AllByRecursion, fold, position, position_or_len}
-use Rattle.surf_surfaces.proofs.Common.{nat_le, All, cases_eq, cases_Bool, eq-eqb, eqb-true, ne_eqb, nat_tests, get_or-set_same, get_or-set_other, append-nil, get_or-map, get_or-replicate, get_or_default, length-map, Mesh, edge_count}
+use Rattle.surf_surfaces.proofs.Common.{◌≡◌, ◌≢◌, ℕ, zero, suc, ◌<◌, ◌≤◌, ◌+◌, ◌⊎◌, eqb, Bool, true, false, List, [], ◌∷◌, ◌++◌, append_assoc, length, get_or, set, map, replicate, Option, Some, None, Result, Ok, Err, unwrap_or, refl, sym, ap, ◌∙◌, subst, arith, inl, inr, ◌&&◌, AllByRecursion, fold, position, position_or_len, nat_le, All, cases_eq, cases_Bool, eq-eqb, eqb-true, ne_eqb, nat_tests, get_or-set_same, get_or-set_other, append-nil, get_or-map, get_or-replicate, get_or_default, length-map, Mesh, edge_count, same_number_lists, fold-append}
 use Rattle.std.proofs.Math.ListN.{length-set, length-replicate}
-use Rattle.std.proofs.lemmas.Grind.{same_number_lists}
-use Rattle.std.proofs.lemmas.List.Sums.{fold-append}
 use Rattle.surf_text.specs.Text.{TextLine, tokens_of, trimmed, uncommented, onto_lines, numbered_from}
 use Rattle.surf_text.proofs.Cuts.{none_is}
 use Rattle.surf_lengths.specs.Lengths.{longest}

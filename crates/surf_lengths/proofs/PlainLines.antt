@@ -1,10 +1,8 @@
 -- Plain lines `u v n`.
 use Rattle.std.proofs.Common.{◌≡◌, ◌<◌, ◌≤◌, ◌+◌, ◌-◌, ◌⊎◌, ◌||◌, ℕ, Bool, true, false, eqb, ne_eqb, eqb-true, List, [], ◌∷◌, ◌++◌, length, length-append, append_assoc, take, All, Some, refl, sym, ◌∙◌, ap, arith, inl, inr}
-use Rattle.surf_surfaces.proofs.Common.{AllByRecursion, list_all, position_or_len, slice_split, and_parts, or_cases, or_right, append-nil, take_all, All-from_recursion}
-use Rattle.std.specs.Char.{is_ascii_digit}
+use Rattle.surf_surfaces.proofs.Common.{AllByRecursion, list_all, position_or_len, slice_split, and_parts, or_cases, or_right, append-nil, take_all, All-from_recursion, is_ascii_digit, take-append_seam}
 use Rattle.std.proofs.lemmas.List.Folds.{list_all-append}
 use Rattle.std.proofs.lemmas.List.Splits.{slice_split_at, slice_split_none}
-use Rattle.std.proofs.Math.Seq.{take-append_seam}
 use Rattle.surf_text.specs.Text.{is_line_end, is_comment_sign, is_nonempty, before_some, short_whole, tokens_of, trimmed, trimmed_front, trimmed_back, uncommented}
 use Rattle.surf_text.proofs.Digits.{digit_low, blank_low}
 use Rattle.surf_text.proofs.Plain.{is_space, plain_tokens, short_is_whole, whole_some}

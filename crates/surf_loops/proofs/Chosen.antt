@@ -1,8 +1,5 @@
 -- The loops that a desk holds are those that are chosen.
-use Rattle.surf_surfaces.proofs.Common.{ℕ, ◌<◌, ◌≤◌, ◌≡◌, ◌≢◌, ◌^◌, ◌||◌, ◌&&◌, refl, sym, ap, ◌∙◌, subst, arith, inl, inr, List, [], ◌∷◌, length, map, get_or, true, false, eqb, ltb, All, IsPermutation, cases_lt, eq-eqb, ne_eqb, false≢true, nat_tests, get_or-map, length-map, get_or_default, recursion_from_All, IsInOrder, primal, IsSplit, IsTree, Mesh, edge_count, IsSurface, cells_of, ArePositive, IsClosed, IsIndependent, loop_length, loop_walk, Trees, Loop, AreChosenAt, comes_before, loop_at, loops_at}
-use Rattle.std.specs.List.{AllByRecursion, IsDistinct}
-use Rattle.std.specs.List.Sorted.{IsNonDecreasingBy}
-use Rattle.std.proofs.lemmas.List.Sorted.{IsPermutation-map, IsPermutation-sym, IsPermutation-trans, All-permutation, length_permutation}
+use Rattle.surf_surfaces.proofs.Common.{ℕ, ◌<◌, ◌≤◌, ◌≡◌, ◌≢◌, ◌^◌, ◌||◌, ◌&&◌, refl, sym, ap, ◌∙◌, subst, arith, inl, inr, List, [], ◌∷◌, length, map, get_or, true, false, eqb, ltb, All, IsPermutation, cases_lt, eq-eqb, ne_eqb, false≢true, nat_tests, get_or-map, length-map, get_or_default, recursion_from_All, IsInOrder, primal, IsSplit, IsTree, Mesh, edge_count, IsSurface, cells_of, ArePositive, IsClosed, IsIndependent, loop_length, loop_walk, Trees, Loop, AreChosenAt, comes_before, loop_at, loops_at, AllByRecursion, IsDistinct, IsNonDecreasingBy, IsPermutation-map, IsPermutation-sym, IsPermutation-trans, All-permutation, length_permutation}
 use Rattle.std.proofs.lemmas.Map.Keys.{apart_from_distinct, IsDistinct-from_apart, IsDistinct-IsPermutation}
 use Rattle.surf_z2.proofs.Merge.{merge_law, sorted-permutes, order_from_sorted}
 use Rattle.surf_surfaces.specs.Cotree.{left_edges}

@@ -1,6 +1,5 @@
 -- What the trees of a desk have for each vertex and each face, as rows of a certificate.
-use Rattle.surf_surfaces.proofs.Common.{◌≡◌, ℕ, ◌+◌, ◌<◌, ◌^◌, List, [], ◌∷◌, ◌++◌, length, map, None, refl, sym, ap, ◌∙◌, subst, arith, inl, inr, range_with_len, cases_eq, ne_eqb, eq-eqb, Mesh, edge_count, face_count, ends, IsSurface, ArePositive}
-use Rattle.std.proofs.lemmas.List.FromFn.{map-range_with_len_more}
+use Rattle.surf_surfaces.proofs.Common.{◌≡◌, ℕ, ◌+◌, ◌<◌, ◌^◌, List, [], ◌∷◌, ◌++◌, length, map, None, refl, sym, ap, ◌∙◌, subst, arith, inl, inr, range_with_len, cases_eq, ne_eqb, eq-eqb, Mesh, edge_count, face_count, ends, IsSurface, ArePositive, map-range_with_len_more}
 use Rattle.surf_surfaces.specs.Cotree.{left_edges}
 use Rattle.surf_surfaces.proofs.walks.ShortestTreeLaws.{shortest_is_tree}
 use Rattle.surf_validity.specs.Rows.{TreeRows, DualRows, LoopCert}

@@ -1,6 +1,5 @@
 -- Ways in a tree, and marked trees.
-use Rattle.surf_surfaces.proofs.Common.{ℕ, ◌<◌, ◌≡◌, ◌≢◌, sym, ap, ◌∙◌, subst, inl, inr, List, [], ◌∷◌, ◌++◌, reverse, length, get_or, slice_index, Option, Some, None, Bool, cases_eq, get_or_default, Tree, primal, Mesh, cells_of, ArePositive, loop_walk, edge_count, ends, IsSurface}
-use Rattle.surf_graphs.specs.Loops.{way_down, way_up}
+use Rattle.surf_surfaces.proofs.Common.{ℕ, ◌<◌, ◌≡◌, ◌≢◌, sym, ap, ◌∙◌, subst, inl, inr, List, [], ◌∷◌, ◌++◌, reverse, length, get_or, slice_index, Option, Some, None, Bool, cases_eq, get_or_default, Tree, primal, Mesh, cells_of, ArePositive, loop_walk, edge_count, ends, IsSurface, way_down, way_up}
 use Rattle.surf_graphs.proofs.Ways.{ways_go_by_parents}
 use Rattle.surf_graphs.proofs.Turned.{way_reversed}
 use Rattle.surf_surfaces.proofs.walks.ShortestTreeLaws.{shortest_is_tree}

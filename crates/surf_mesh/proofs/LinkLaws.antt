@@ -1,5 +1,5 @@
 -- Rows of links are rows of the graphs of a surface.
-use Rattle.surf_surfaces.proofs.Common.{◌≡◌, ◌≢◌, ℕ, ◌+◌, ◌-◌, ◌^◌, ◌<◌, ◌≤◌, true, ◌&&◌, ◌||◌, eqb, List, [], length, get_or, map, All, refl, sym, ap, ◌∙◌, subst, arith, inl, inr, range_with_len, cases_eq, eq-eqb, ne_eqb, nat_tests, get_or-map, length-map, length-range_with_len, get_or-range_with_len, primal, dual, cells_of, Mesh, IsMesh, edges, face_count, face_at, edge_count, ends, faces_of, has_side, touches, IsSurface, place_of}
+use Rattle.surf_surfaces.proofs.Common.{◌≡◌, ◌≢◌, ℕ, ◌+◌, ◌-◌, ◌^◌, ◌<◌, ◌≤◌, true, ◌&&◌, ◌||◌, eqb, List, [], length, get_or, map, All, refl, sym, ap, ◌∙◌, subst, arith, inl, inr, range_with_len, cases_eq, eq-eqb, ne_eqb, nat_tests, get_or-map, length-map, length-range_with_len, get_or-range_with_len, primal, dual, cells_of, Mesh, IsMesh, edges, face_count, face_at, edge_count, ends, faces_of, has_side, touches, IsSurface, place_of, side_count, pair_at, owners, first_side, IsFaceOf, IsMate, IsEdgeOf}
 use Rattle.surf_surfaces.proofs.meshes.CellLaws.{ends_below}
 use Rattle.surf_surfaces.proofs.meshes.SurfaceLaws.{two_faces_of}
 use Rattle.surf_surfaces.proofs.meshes.EdgeLaws.{place_of-among, place_of-ends}
@@ -7,7 +7,6 @@ use Rattle.surf_surfaces.proofs.meshes.SideLaws.{side_place}
 use Rattle.surf_surfaces.proofs.meshes.CountLaws.{sizes_twice}
 use Rattle.surf_surfaces.proofs.classes.ClassLaws.{independent_walks_are_few, some_vertex}
 use Rattle.surf_z2.proofs.Linear.{chosen_none}
-use Rattle.surf_surfaces.specs.SideNumber.{side_count, pair_at, owners, first_side, IsFaceOf, IsMate, IsEdgeOf}
 use Rattle.surf_soup.proofs.EdgeTables.{pair_at-edge}
 use Rattle.surf_soup.proofs.HalfLaws.{face_of_side, spans}
 use Rattle.surf_soup.proofs.SideNumbers.{pair_at_place, side_of_face, face_has_side, one_face}

@@ -1,8 +1,6 @@
 -- The lengths with bars, and what barring one more vertex does to them.
 use Rattle.std.proofs.Common.{◌≡◌, ℕ, ◌<◌, [], Bool, true, false, ◌||◌, if◌then◌else◌, eqb, eq-eqb, List, length, set, replicate, refl, sym, ap, ◌∙◌, subst, arith, inl, inr, get_or-set_same, get_or-set_other}
-use Rattle.std.proofs.lemmas.Bool.{cases_Bool, cases_lt, eqb-true, or_cases, or_left, or_right, or_from, or_parts}
-use Rattle.std.proofs.lemmas.List.{ext_get_or, get_or-replicate, get_or_past, length-replicate}
-use Rattle.surf_surfaces.proofs.Common.{All-from_get_or, get_or-map-range_with_len, length-map-range_with_len, Mesh, edge_count, ends, edge_length}
+use Rattle.surf_surfaces.proofs.Common.{cases_Bool, cases_lt, eqb-true, or_cases, or_left, or_right, or_from, or_parts, ext_get_or, get_or-replicate, get_or_past, length-replicate, All-from_get_or, get_or-map-range_with_len, length-map-range_with_len, Mesh, edge_count, ends, edge_length}
 use Rattle.std.specs.Prelude.{slice_index_or, Contains, Option, Some, None, MatchOption, ⊤}
 use Rattle.surf_lengths.specs.Lengths.{longest, IsLength, AreLengths}
 use Rattle.surf_tree.specs.Queues.{AreEven, AreUpTo, IsEvenness}

@@ -1,8 +1,6 @@
 -- What a search of a mesh has found as far as a radius is there in each tree of shortest walks.
 use Rattle.std.proofs.Common.{◌≡◌, ◌≢◌, ℕ, ◌+◌, ◌*◌, ◌^◌, ◌<◌, ◌≤◌, List, length, take, refl, sym, ap, ◌∙◌, subst, arith, inl, inr, get_or, Contains, eq-eqb, ne_eqb}
-use Rattle.std.proofs.lemmas.Bool.{cases_eq, cases_lt, le-leb, lt-leb, false≢true}
-use Rattle.surf_surfaces.proofs.Common.{get_or-take, length-take-le, Contains-get_or, primal, Tree, joins_turned, joined_below, Mesh, pair, edges, ends, IsSurface, edge_length, edge_number, place_of, ArePositive, cells_of}
-use Rattle.surf_surfaces.specs.ShortestTree.{IsShortestTree, IsTight as IsTightIn}
+use Rattle.surf_surfaces.proofs.Common.{cases_eq, cases_lt, le-leb, lt-leb, false≢true, get_or-take, length-take-le, Contains-get_or, primal, Tree, joins_turned, joined_below, Mesh, pair, edges, ends, IsSurface, edge_length, edge_number, place_of, ArePositive, cells_of, IsShortestTree, IsTight as IsTightIn}
 use Rattle.surf_surfaces.proofs.meshes.EdgeLaws.{place_of-among, place_of-ends, among-contains, contains_from_among}
 use Rattle.surf_surfaces.proofs.meshes.CellLaws.{surfaces_are_cells, ends_below, joins_from, joins_is}
 use Rattle.surf_surfaces.proofs.walks.GraphWalkLaws.{joined, from_joined}

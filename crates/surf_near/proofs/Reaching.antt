@@ -1,6 +1,5 @@
 -- What a search as far as a radius has reached is what is so near in the tree of shortest walks.
-use Rattle.surf_surfaces.proofs.Common.{ℕ, zero, suc, ◌<◌, ◌≤◌, ◌≡◌, ◌≢◌, ◌+◌, sym, ap, ◌∙◌, arith, inl, inr, cases_eq, Graph, Tree, IsTree, IsShortest, joins_turned}
-use Rattle.surf_graphs.proofs.Lengths.{step_short}
+use Rattle.surf_surfaces.proofs.Common.{ℕ, zero, suc, ◌<◌, ◌≤◌, ◌≡◌, ◌≢◌, ◌+◌, sym, ap, ◌∙◌, arith, inl, inr, cases_eq, Graph, Tree, IsTree, IsShortest, joins_turned, step_short}
 use Rattle.surf_near.specs.Near.{never}
 use Rattle.surf_near.specs.Searching.{IsReachedNear}
 

@@ -1,6 +1,5 @@
 -- What is read of a text has no line end, no comment sign and no blank at its ends.
-use Rattle.surf_surfaces.proofs.Common.{◌≡◌, ◌+◌, ℕ, zero, suc, Bool, true, false, cond, List, [], ◌∷◌, take, drop, refl, sym, ◌∙◌, ap, arith, inl, inr, ◌||◌, cases_Bool}
-use Rattle.std.specs.List.{list_any, slice_split, onto_first, before_first, position_or_len}
+use Rattle.surf_surfaces.proofs.Common.{◌≡◌, ◌+◌, ℕ, zero, suc, Bool, true, false, cond, List, [], ◌∷◌, take, drop, refl, sym, ◌∙◌, ap, arith, inl, inr, ◌||◌, cases_Bool, list_any, slice_split, onto_first, before_first, position_or_len}
 use Rattle.surf_text.specs.Text.{TextLine, is_blank, is_line_end, is_comment_sign, uncommented, trimmed_front, before_some, trimmed_back, trimmed, behind_word, behind_words, rest_after, tokens_of, onto_lines, numbered_from, lines_of}
 use Rattle.surf_text.proofs.Words.{front_twice, trimmed_begins}
 use Rattle.surf_off.specs.Clean.{IsClean}

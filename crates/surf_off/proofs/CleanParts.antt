@@ -1,7 +1,6 @@
 -- The vertex lines and colours of a text are clean.
-use Rattle.surf_surfaces.proofs.Common.{◌≡◌, ◌+◌, ℕ, zero, suc, Bool, true, List, [], ◌∷◌, length, take, drop, Option, Some, None, Result, Ok, Err, refl, ap, subst, inl, inr, nat_le, cases_Bool, leb-true}
+use Rattle.surf_surfaces.proofs.Common.{◌≡◌, ◌+◌, ℕ, zero, suc, Bool, true, List, [], ◌∷◌, length, take, drop, Option, Some, None, Result, Ok, Err, refl, ap, subst, inl, inr, nat_le, cases_Bool, leb-true, All-nil, All-cons}
 use Rattle.std.specs.List.{All}
-use Rattle.std.proofs.lemmas.List.Elements.{All-nil, All-cons}
 use Rattle.surf_text.specs.Text.{TextLine, rest_after, tokens_of, lines_of}
 use Rattle.surf_off.specs.declared.fault.OffFault.{OffFault}
 use Rattle.surf_off.specs.declared.header.Header.{Header as Keyword}

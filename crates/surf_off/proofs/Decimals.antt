@@ -1,6 +1,5 @@
 -- The decimal text of a number is a token that stands for it.
-use Rattle.surf_surfaces.proofs.Common.{◌≡◌, ◌<◌, ◌≤◌, ◌+◌, ◌-◌, ◌*◌, ◌%◌, ◌^◌, ℕ, Bool, true, false, List, [], ◌∷◌, ◌++◌, Some, refl, ◌∙◌, ap, arith, inl, inr, ◌&&◌, decimal, nat_lt, nat_le, list_all, list_any, cases_Bool, le-leb, lt-ltb, ne_eqb}
-use Rattle.std.specs.Char.{is_ascii_digit}
+use Rattle.surf_surfaces.proofs.Common.{◌≡◌, ◌<◌, ◌≤◌, ◌+◌, ◌-◌, ◌*◌, ◌%◌, ◌^◌, ℕ, Bool, true, false, List, [], ◌∷◌, ◌++◌, Some, refl, ◌∙◌, ap, arith, inl, inr, ◌&&◌, decimal, nat_lt, nat_le, list_all, list_any, cases_Bool, le-leb, lt-ltb, ne_eqb, is_ascii_digit}
 use Rattle.std.proofs.lemmas.Fmt.{decimal_by_steps}
 use Rattle.std.proofs.lemmas.List.Sums.{fold_push}
 use Rattle.surf_text.proofs.Digits.{blank_low, comment_low, digit_low}

@@ -1,8 +1,7 @@
 -- Where what is read of a line stands in the text.
 use Rattle.std.proofs.Common.{◌≡◌, ◌<◌, ◌≤◌, ◌+◌, ◌-◌, ℕ, zero, suc, false, List, [], ◌∷◌, ◌++◌, length, length-append, take, drop, refl, sym, ◌∙◌, ap, subst, arith, inl, inr, not}
-use Rattle.surf_surfaces.proofs.Common.{list_any, slice_split, position_or_len, cases_lt}
+use Rattle.surf_surfaces.proofs.Common.{list_any, slice_split, position_or_len, cases_lt, take-length}
 use Rattle.std.proofs.lemmas.List.{drop-drop, drop_all, drop_at, length-drop}
-use Rattle.std.proofs.Math.Seq.{take-length}
 use Rattle.surf_text.specs.Text.{TextLine, is_blank, is_line_end, trimmed, behind_word, behind_words, rest_after}
 use Rattle.surf_text.specs.Walks.{PlacedWalk, lines_ahead, StandsAt}
 use Rattle.surf_text.proofs.Words.{front_is}

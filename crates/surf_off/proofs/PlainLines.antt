@@ -1,10 +1,7 @@
 -- Words behind spaces, and what stands behind them.
 use Rattle.std.proofs.Common.{◌≡◌, ◌<◌, ◌≤◌, ◌+◌, ◌-◌, ℕ, suc, Bool, true, false, List, [], ◌∷◌, ◌++◌, length, length-append, take, drop, Some, None, Ok, Err, refl, sym, ◌∙◌, ap, subst, append_assoc, arith, inl, inr}
 use Rattle.std.specs.Borrow.{Bor}
-use Rattle.surf_surfaces.proofs.Common.{nat_le, nat_lt, ◌==◌, ◌||◌, Option, Result, IfOk, IfSome, both_ways, cases_Bool, le-leb, le-ltb, lt-ltb}
-use Rattle.std.specs.List.{list_any, before_first, position_or_len}
-use Rattle.std.proofs.Math.Seq.{take-append_seam}
-use Rattle.std.proofs.lemmas.List.{append-nil, take-append-drop, take_rest}
+use Rattle.surf_surfaces.proofs.Common.{nat_le, nat_lt, ◌==◌, ◌||◌, Option, Result, IfOk, IfSome, both_ways, cases_Bool, le-leb, le-ltb, lt-ltb, list_any, before_first, position_or_len, take-append_seam, append-nil, take-append-drop, take_rest}
 use Rattle.surf_text.specs.Text.{TextLine, is_blank, is_line_end, is_comment_sign, is_nonempty, uncommented, words_of, tokens_of, before_some, trimmed_back, trimmed, behind_words, rest_after, short_whole, is_no_digit, front_digits, onto_lines}
 use Rattle.surf_text.proofs.Words.{front_back, words_trimmed}
 use Rattle.surf_text.proofs.Plain.{whole_some, short_is_whole}

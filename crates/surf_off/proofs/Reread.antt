@@ -1,7 +1,6 @@
 -- What is written is read as what was handed in.
-use Rattle.surf_surfaces.proofs.Common.{◌≡◌, ◌≢◌, ◌<◌, ◌≤◌, ◌+◌, ◌^◌, ℕ, zero, suc, Bool, true, false, List, [], ◌∷◌, ◌++◌, length, take, get_or, None, Ok, refl, sym, ◌∙◌, ap, subst, append_assoc, arith, codes, ◌==◌, nat_le, nat_lt, decimal, map, le-leb, lt-ltb, ne_eqb, length-map, IsFace}
+use Rattle.surf_surfaces.proofs.Common.{◌≡◌, ◌≢◌, ◌<◌, ◌≤◌, ◌+◌, ◌^◌, ℕ, zero, suc, Bool, true, false, List, [], ◌∷◌, ◌++◌, length, take, get_or, None, Ok, refl, sym, ◌∙◌, ap, subst, append_assoc, arith, codes, ◌==◌, nat_le, nat_lt, decimal, map, le-leb, lt-ltb, ne_eqb, length-map, IsFace, take-append_seam}
 use Rattle.std.specs.List.{list_any, slice_split, All, AllPairs, zip}
-use Rattle.std.proofs.Math.Seq.{take-append_seam}
 use Rattle.surf_text.specs.Text.{TextLine, is_line_end, uncommented, trimmed, tokens_of, words_of, onto_lines, numbered_from, rest_after}
 use Rattle.surf_off.specs.Off.{vertices_at, size_of, corners_at, first_repeat, face_of, faces_at}
 use Rattle.surf_off.specs.Clean.{IsClean, IsVertexLine}

@@ -1,8 +1,7 @@
 -- A text that is written is read, without limits, as the mesh that was handed in.
-use Rattle.surf_surfaces.proofs.Common.{◌≡◌, ◌<◌, ◌+◌, ◌^◌, ℕ, zero, suc, false, List, [], ◌∷◌, ◌++◌, length, Some, Ok, refl, sym, ◌∙◌, ap, subst, append_assoc, arith, codes, decimal, slice_index, length-range_with_len, length-map, append-nil, Mesh, IsFace, IsMesh}
+use Rattle.surf_surfaces.proofs.Common.{◌≡◌, ◌<◌, ◌+◌, ◌^◌, ℕ, zero, suc, false, List, [], ◌∷◌, ◌++◌, length, Some, Ok, refl, sym, ◌∙◌, ap, subst, append_assoc, arith, codes, decimal, slice_index, length-range_with_len, length-map, append-nil, Mesh, IsFace, IsMesh, All-nil, All-cons}
 use Rattle.std.specs.List.{list_any, All, zip, range_with_len, sum_by}
 use Rattle.std.proofs.lemmas.Fmt.{decimal_digit}
-use Rattle.std.proofs.lemmas.List.Elements.{All-nil, All-cons}
 use Rattle.std.proofs.lemmas.List.Sums.{get_or-le-sum_by}
 use Rattle.surf_text.specs.Text.{is_line_end, tokens_of}
 use Rattle.surf_off.specs.declared.header.Header.{Header}

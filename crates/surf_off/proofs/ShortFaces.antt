@@ -1,8 +1,6 @@
 -- Lines that are made from their ends.
 use Rattle.std.proofs.Common.{◌≡◌, ◌<◌, ◌≤◌, ◌+◌, ◌^◌, ℕ, List, ◌∷◌, ◌++◌, length, get_or, drop, sym, ◌∙◌, ap, append_assoc, length-append, arith}
-use Rattle.std.specs.Prelude.{decimal}
-use Rattle.std.proofs.lemmas.Fmt.{length-decimal-le}
-use Rattle.std.proofs.lemmas.List.{drop_more}
+use Rattle.surf_surfaces.proofs.Common.{decimal, length-decimal-le, drop_more}
 use Rattle.surf_off.specs.Written.{spaced_text}
 
 pub number_short : (n : ℕ) → n < 2 ^ 32 → length (decimal n) ≤ 10

@@ -1,8 +1,5 @@
 -- The premises of the laws are met: a one-sided surface, and a turning of a torus.
-use Rattle.std.specs.Prelude.{◌≡◌, ℕ, ◌<◌, false, [], ◌∷◌, pos}
-use Rattle.surf_surfaces.proofs.Common.{zero, suc, refl, arith, Contains, length, All-from_recursion, Joined, here, over, ends, faces_with, HasCorner, HasEdge, ShareAt, Share, HasOneFan, IsSurface, IsOrientation}
-use Rattle.surf_surfaces.specs.Mesh.{IsMesh, IsFace, pair, steps, characteristic}
-use Rattle.surf_surfaces.specs.Turning.{IsOneSided}
+use Rattle.surf_surfaces.proofs.Common.{◌≡◌, ℕ, ◌<◌, false, [], ◌∷◌, pos, zero, suc, refl, arith, Contains, length, All-from_recursion, Joined, here, over, ends, faces_with, HasCorner, HasEdge, ShareAt, Share, HasOneFan, IsSurface, IsOrientation, IsMesh, IsFace, pair, steps, characteristic, IsOneSided}
 use Rattle.surf_surfaces.proofs.meshes.SmallFaces.{square}
 use Rattle.surf_surfaces.proofs.meshes.FanLaws.{listed_faces_are_fan}
 use Rattle.surf_orientation.specs.Examples.{half_cube, half_cube_chain, five_torus}

@@ -1,9 +1,6 @@
 -- Euler characteristics: at most 2, and even where there is a turning.
-use Rattle.surf_surfaces.proofs.Common.{◌≡◌, ℕ, zero, suc, subst, ◌+◌, ◌-◌, ◌*◌, ◌<◌, ◌≤◌, true, refl, sym, ◌∙◌, ap, arith, inl, length, lt-ltb, left_edges, face_count, edge_count, IsSurface, cells_of}
+use Rattle.surf_surfaces.proofs.Common.{◌≡◌, ℕ, zero, suc, subst, ◌+◌, ◌-◌, ◌*◌, ◌<◌, ◌≤◌, true, refl, sym, ◌∙◌, ap, arith, inl, length, lt-ltb, left_edges, face_count, edge_count, IsSurface, cells_of, +ℤ_comm, +ℤ-neg_ℤ_cancel, heaviest_tree, Mesh, characteristic}
 use Rattle.std.specs.Prelude.{pos, negsuc, ◌-ℤ◌, ◌≤ℤ◌}
-use Rattle.std.proofs.Math.IntN.{+ℤ_comm, +ℤ-neg_ℤ_cancel}
-use Rattle.surf_graphs.proofs.HeaviestTrees.{heaviest_tree}
-use Rattle.surf_surfaces.specs.Mesh.{Mesh, characteristic}
 use Rattle.surf_surfaces.proofs.classes.ClassLaws.{some_split}
 use Rattle.surf_surfaces.proofs.meshes.EulerSums.{less_two}
 use Rattle.surf_orientation.specs.Statements.{CountsAreEven, SurfacesHaveSplits, CharacteristicsAreAtMostTwo, CountsAreAtMostTwoMore, genus_of, GenusIsHalf, GenusIsLoopCount, LeftEdgesAreTwiceGenus, ConnectedGraphsHaveTrees}

@@ -1,11 +1,8 @@
 -- The edges that flags do not fit: even at each vertex, and a boundary exactly where there is a turning.
-use Rattle.surf_surfaces.proofs.Common.{◌≡◌, ◌≢◌, ℕ, zero, suc, ◌+◌, ◌-◌, ◌<◌, ◌≤◌, Bool, true, false, cond, not, ◌&&◌, eqb, [], length, refl, sym, ◌∙◌, ap, arith, inl, inr, subst, cases_lt, lt-ltb, le-ltb, eq-eqb, ne_eqb, eqb-true, xor, odd_below, count_below, IsEven, left_edges, Mesh, pair, pair_eq, cells_of}
+use Rattle.surf_surfaces.proofs.Common.{◌≡◌, ◌≢◌, ℕ, zero, suc, ◌+◌, ◌-◌, ◌<◌, ◌≤◌, Bool, true, false, cond, not, ◌&&◌, eqb, [], length, refl, sym, ◌∙◌, ap, arith, inl, inr, subst, cases_lt, lt-ltb, le-ltb, eq-eqb, ne_eqb, eqb-true, xor, odd_below, count_below, IsEven, left_edges, Mesh, pair, pair_eq, cells_of, primal, IsNullChain, signature_null, face_count, edge_count, face_at, ends, faces_of, touches, runs, runs_turned, IsSurface}
 use Rattle.std.specs.Prelude.{pos, ◌≤ℤ◌}
-use Rattle.surf_graphs.specs.Cells.{primal, IsNullChain}
 use Rattle.surf_z2.proofs.Sums.{count_below-same, count_below-paired}
 use Rattle.surf_graphs.proofs.Rounds.{par, odd_counted}
-use Rattle.surf_graphs.proofs.CellLaws.{signature_null}
-use Rattle.surf_surfaces.specs.Surface.{face_count, edge_count, face_at, ends, faces_of, touches, runs, runs_turned, IsSurface}
 use Rattle.surf_surfaces.proofs.walks.EvenLaws.{touches-xor, side_moves}
 use Rattle.surf_surfaces.proofs.meshes.FaceLaws.{touches-pair_of}
 use Rattle.surf_z2.proofs.ParityLaws.{and-false, and-true, xor_equal, xor_left_comm, xor-same, xor-same_left, xor-false, xor_pairs, odd_below-same, odd_below-xor}

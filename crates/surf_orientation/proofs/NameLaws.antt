@@ -1,8 +1,5 @@
 -- A turn's sign, by its number of rounds.
-use Rattle.surf_surfaces.proofs.Common.{◌≡◌, ◌≢◌, ℕ, zero, suc, ◌+◌, ◌<◌, Bool, true, false, cond, not, ◌&&◌, eqb, refl, sym, ◌∙◌, ap, arith, inl, inr, cases_eq, eq-eqb, ne_eqb, eqb-true, false≢true, false_from_ne_true, xor, any_below, count_below}
-use Rattle.surf_graphs.specs.Rounds.{IsTurn}
-use Rattle.surf_z2.proofs.ParityLaws.{xors, xor-same, and-true, any_below-found, any_below-from}
-use Rattle.surf_z2.proofs.Sums.{count_below-same, count_below-none, count_below-all, count_below-without}
+use Rattle.surf_surfaces.proofs.Common.{◌≡◌, ◌≢◌, ℕ, zero, suc, ◌+◌, ◌<◌, Bool, true, false, cond, not, ◌&&◌, eqb, refl, sym, ◌∙◌, ap, arith, inl, inr, cases_eq, eq-eqb, ne_eqb, eqb-true, false≢true, false_from_ne_true, xor, any_below, count_below, IsTurn, xors, xor-same, and-true, any_below-found, any_below-from, count_below-same, count_below-none, count_below-all, count_below-without}
 use Rattle.surf_graphs.proofs.Signs.{is_odd, is_odd_same, is_odd_after, turn_after}
 use Rattle.surf_graphs.proofs.Rounds.{par, par-suc, par-zero, par-add, par_half}
 use Rattle.surf_orientation.specs.Names.{NamesRounds}

@@ -1,8 +1,6 @@
 -- A surface has a turning or a one-sided chain.
-use Rattle.surf_surfaces.proofs.Common.{◌≡◌, ◌≢◌, ℕ, zero, suc, ◌<◌, ◌≤◌, Bool, true, false, not, eqb, List, [], ◌∷◌, length, refl, sym, ◌∙◌, ap, arith, inl, inr, subst, ◌⊎◌, cases_eq, cases_Bool, lt-ltb, eq-eqb, ne_eqb, or_left, or_right, false≢true, dual, Tree, IsTree, xor, odd, any_below, Mesh, pair_of, xor_equal, xor_comm, xor_assoc, xor-same, any_below-found, any_below-none, cells_of}
+use Rattle.surf_surfaces.proofs.Common.{◌≡◌, ◌≢◌, ℕ, zero, suc, ◌<◌, ◌≤◌, Bool, true, false, not, eqb, List, [], ◌∷◌, length, refl, sym, ◌∙◌, ap, arith, inl, inr, subst, ◌⊎◌, cases_eq, cases_Bool, lt-ltb, eq-eqb, ne_eqb, or_left, or_right, false≢true, dual, Tree, IsTree, xor, odd, any_below, Mesh, pair_of, xor_equal, xor_comm, xor_assoc, xor-same, any_below-found, any_below-none, cells_of, heaviest_tree, face_count, edge_count, face_at, ends, faces_of, has_side, runs, runs_turned, HasEdge, IsSurface}
 use Rattle.surf_graphs.proofs.Trees.{one_of, along, along_step}
-use Rattle.surf_graphs.proofs.HeaviestTrees.{heaviest_tree}
-use Rattle.surf_surfaces.specs.Surface.{face_count, edge_count, face_at, ends, faces_of, has_side, runs, runs_turned, HasEdge, IsSurface}
 use Rattle.surf_surfaces.specs.Turning.{Link, next_face, AreLinked, same_ways, IsOneSided}
 use Rattle.surf_surfaces.proofs.meshes.SurfaceLaws.{two_faces_of, has_side-face}
 use Rattle.surf_surfaces.proofs.meshes.OrientationLaws.{turned_is}

@@ -1,9 +1,5 @@
 -- The sides of a surface's faces by number: two for each edge, and each at its place in its face.
-use Rattle.surf_surfaces.proofs.Common.{◌≡◌, ◌≢◌, ℕ, ◌+◌, ◌-◌, ◌<◌, ◌≤◌, Bool, true, false, cond, not, eqb, ltb, List, [], length, refl, sym, ◌∙◌, ap, arith, inl, inr, subst, cases_lt, cases_Bool, lt-ltb, le-ltb, eq-eqb, ne_eqb, eqb-true, or_left, or_right, Mesh, IsMesh, pair_eq, edges, IsFace, face_count, edge_count, face_at, ends, faces_of, has_side, IsSurface, place_of}
-use Rattle.surf_z2.specs.Parity.{least_below}
-use Rattle.surf_graphs.specs.Rounds.{IsTurn}
-use Rattle.surf_z2.proofs.ParityLaws.{least_below-found}
-use Rattle.surf_surfaces.specs.Side.{after, before, side_pair}
+use Rattle.surf_surfaces.proofs.Common.{◌≡◌, ◌≢◌, ℕ, ◌+◌, ◌-◌, ◌<◌, ◌≤◌, Bool, true, false, cond, not, eqb, ltb, List, [], length, refl, sym, ◌∙◌, ap, arith, inl, inr, subst, cases_lt, cases_Bool, lt-ltb, le-ltb, eq-eqb, ne_eqb, eqb-true, or_left, or_right, Mesh, IsMesh, pair_eq, edges, IsFace, face_count, edge_count, face_at, ends, faces_of, has_side, IsSurface, place_of, least_below, IsTurn, least_below-found, after, before, side_pair}
 use Rattle.surf_surfaces.proofs.meshes.CellLaws.{ends_below}
 use Rattle.surf_surfaces.proofs.meshes.PairLaws.{pair_eq-true, pair_eq-same}
 use Rattle.surf_surfaces.proofs.meshes.EdgeLaws.{place_of-among, place_of-ends, among-edges, list_any_from}

@@ -1,6 +1,5 @@
 -- The sign of a swap, and of a turn that leaves the last thing where it is.
-use Rattle.surf_surfaces.proofs.Common.{◌≡◌, ◌≢◌, ℕ, suc, ◌<◌, Bool, true, false, cond, ◌&&◌, eqb, ltb, refl, sym, ◌∙◌, ap, arith, inl, inr, cases_eq, cases_lt, lt-ltb, le-ltb, eq-eqb, ne_eqb, xor, odd_below}
-use Rattle.surf_graphs.specs.Rounds.{IsTurn}
+use Rattle.surf_surfaces.proofs.Common.{◌≡◌, ◌≢◌, ℕ, suc, ◌<◌, Bool, true, false, cond, ◌&&◌, eqb, ltb, refl, sym, ◌∙◌, ap, arith, inl, inr, cases_eq, cases_lt, lt-ltb, le-ltb, eq-eqb, ne_eqb, xor, odd_below, IsTurn}
 use Rattle.surf_z2.proofs.ParityLaws.{xor-false, and-false, odd_below-same, odd_below-none, odd_below-only, odd_below-xor, odd_below-at}
 use Rattle.surf_graphs.proofs.Signs.{is_odd}
 

@@ -1,7 +1,5 @@
 -- In a turned surface the sides of a face follow one another, and so do those that leave a vertex.
-use Rattle.surf_surfaces.proofs.Common.{◌≡◌, ℕ, zero, suc, ◌+◌, ◌<◌, Bool, true, false, cond, not, List, [], length, refl, sym, ◌∙◌, ap, arith, inl, inr, cases_Bool, lt-ltb, true≢false, Mesh, pair, pair_of, pair_eq, sides, IsFace, face_count, face_at, ends, runs, IsSurface}
-use Rattle.surf_graphs.specs.Rounds.{IsTurn}
-use Rattle.surf_surfaces.specs.Side.{after, before, corner, side_pair}
+use Rattle.surf_surfaces.proofs.Common.{◌≡◌, ℕ, zero, suc, ◌+◌, ◌<◌, Bool, true, false, cond, not, List, [], length, refl, sym, ◌∙◌, ap, arith, inl, inr, cases_Bool, lt-ltb, true≢false, Mesh, pair, pair_of, pair_eq, sides, IsFace, face_count, face_at, ends, runs, IsSurface, IsTurn, after, before, corner, side_pair}
 use Rattle.surf_surfaces.proofs.meshes.PairLaws.{pair_eq-true, pair_eq-same}
 use Rattle.surf_surfaces.proofs.meshes.EdgeLaws.{list_any_at, list_any_from}
 use Rattle.surf_surfaces.proofs.meshes.FaceLaws.{pair_comm}

@@ -1,10 +1,6 @@
 -- In a turned surface the sides that leave a vertex follow one another; so vertices, edges and faces are even in all.
-use Rattle.surf_surfaces.proofs.Common.{◌≡◌, ℕ, ◌+◌, ◌-◌, ◌*◌, ◌<◌, ◌≤◌, Bool, true, false, cond, not, eqb, List, length, refl, sym, ◌∙◌, ap, arith, inl, inr, subst, cases_Bool, cases_lt, lt-ltb, le-ltb, eq-eqb, eqb-true, or_cases, get_or_default, Mesh, pair, pair_of, pair_eq, IsFace, after, before, corner}
-use Rattle.surf_z2.specs.Parity.{least_below}
-use Rattle.surf_graphs.specs.Rounds.{IsTurn}
-use Rattle.surf_z2.proofs.ParityLaws.{and_comm, least_below-found}
+use Rattle.surf_surfaces.proofs.Common.{◌≡◌, ℕ, ◌+◌, ◌-◌, ◌*◌, ◌<◌, ◌≤◌, Bool, true, false, cond, not, eqb, List, length, refl, sym, ◌∙◌, ap, arith, inl, inr, subst, cases_Bool, cases_lt, lt-ltb, le-ltb, eq-eqb, eqb-true, or_cases, get_or_default, Mesh, pair, pair_of, pair_eq, IsFace, after, before, corner, least_below, IsTurn, and_comm, least_below-found, face_count, edge_count, face_at, ends, faces_of, touches, runs_turned, HasCorner, IsSurface, IsOrientation}
 use Rattle.surf_graphs.proofs.Signs.{turn_after}
-use Rattle.surf_surfaces.specs.Surface.{face_count, edge_count, face_at, ends, faces_of, touches, runs_turned, HasCorner, IsSurface, IsOrientation}
 use Rattle.surf_surfaces.proofs.meshes.FaceLaws.{pair_comm, touches-pair_of}
 use Rattle.surf_surfaces.proofs.meshes.SideLaws.{corner_place, pair_ends, after-below, before-below, after-before, before-after}
 use Rattle.surf_surfaces.proofs.meshes.FanLaws.{fans_are_whole}

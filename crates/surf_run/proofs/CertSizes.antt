@@ -1,16 +1,12 @@
 -- How long the texts of certificates are.
-use Rattle.surf_surfaces.proofs.Common.{◌≡◌, ◌≢◌, ◌≤◌, ◌<◌, ◌+◌, ◌*◌, ◌^◌, ◌++◌, ℕ, List, [], ◌∷◌, length, get_or, Option, Some, None, arith, eqb-true, length-append, Mesh}
+use Rattle.surf_surfaces.proofs.Common.{◌≡◌, ◌≢◌, ◌≤◌, ◌<◌, ◌+◌, ◌*◌, ◌^◌, ◌++◌, ℕ, List, [], ◌∷◌, length, get_or, Option, Some, None, arith, eqb-true, length-append, Mesh, length-decimal-le, recursion_from_All, All-tail, length-le_from_distinct_below, IsSimpleCycle}
 use Rattle.std.specs.Prelude.{◌==◌, codes, decimal, flat_map}
 use Rattle.std.specs.List.{All, AllPairs, AllByRecursion, zip}
 use Rattle.std.proofs.lemmas.Bool.Decides.{Decides-eqb}
-use Rattle.std.proofs.lemmas.Fmt.{length-decimal-le}
-use Rattle.std.proofs.lemmas.List.Elements.{recursion_from_All, All-tail}
 use Rattle.std.proofs.lemmas.Map.Made.{IsDistinct-from_AllPairs}
-use Rattle.std.proofs.lemmas.Map.Steps.{length-le_from_distinct_below}
 use Rattle.surf_records.specs.Fits.{IsNumber, IsParent, TreeFits, IsPair, IsFaceRow, DualFits, LeftFits, LoopFits, BasisFits}
 use Rattle.surf_text.specs.Numbers.{numbers_text}
 use Rattle.surf_cert.specs.Written.{cert_head_text, base_line, parent_text, vertex_line, pair_text, face_line, pair_line, cycle_line, tree_text, dual_text, left_text, cycles_text, loop_text, basis_text}
-use Rattle.surf_surfaces.specs.Cycle.{IsSimpleCycle}
 use Rattle.surf_surfaces.proofs.meshes.EdgeLaws.{list_any_at}
 use Rattle.surf_validity.specs.Rows.{TreeRows, DualRows, LoopCert, BasisCert}
 

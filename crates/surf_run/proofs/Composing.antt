@@ -1,6 +1,5 @@
 -- Steps that functions take, one after another.
-use Rattle.surf_surfaces.proofs.Common.{◌≡◌, ◌≤◌, ◌∙◌, ℕ, [], Option, Some, None, Result, Ok, Err, inl, inr, refl, sym, ap, subst, arith, err_from_is_err_and}
-use Rattle.std.specs.Prelude.{IfSome, IsErrAnd}
+use Rattle.surf_surfaces.proofs.Common.{◌≡◌, ◌≤◌, ◌∙◌, ℕ, [], Option, Some, None, Result, Ok, Err, inl, inr, refl, sym, ap, subst, arith, err_from_is_err_and, IfSome, IsErrAnd}
 use Rattle.surf_base.specs.Outside.{Files}
 use Rattle.surf_texts.specs.Cause.{Cause, due, unread, starved}
 use Rattle.surf_texts.specs.Outcome.{Outcome, answers, misses}

@@ -1,6 +1,5 @@
 -- The steps of a request to cut a surface open, up to the text that is written.
-use Rattle.surf_surfaces.proofs.Common.{◌≡◌, ◌≤◌, ℕ, List, Option, Some, None, Result, Ok, Err, refl, subst, Mesh, loop_count}
-use Rattle.std.specs.Prelude.{IfSome, IsErrAnd}
+use Rattle.surf_surfaces.proofs.Common.{◌≡◌, ◌≤◌, ℕ, List, Option, Some, None, Result, Ok, Err, refl, subst, Mesh, loop_count, IfSome, IsErrAnd}
 use Rattle.surf_base.specs.Outside.{Files}
 use Rattle.surf_base.specs.declared.limits.LimitKind.TheVariants.{Loops}
 use Rattle.surf_off.specs.Off.{OffParts}

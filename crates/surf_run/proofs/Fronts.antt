@@ -1,6 +1,5 @@
 -- Fronts that rows share, as one step.
-use Rattle.surf_surfaces.proofs.Common.{◌≡◌, ◌≤◌, ℕ, List, Option, Some, None, Result, Ok, Err, refl, subst, Mesh, loop_count}
-use Rattle.std.specs.Prelude.{IfSome, IsErrAnd}
+use Rattle.surf_surfaces.proofs.Common.{◌≡◌, ◌≤◌, ℕ, List, Option, Some, None, Result, Ok, Err, refl, subst, Mesh, loop_count, IfSome, IsErrAnd}
 use Rattle.surf_base.specs.Outside.{Files}
 use Rattle.surf_base.specs.declared.limits.LimitKind.{LimitKind}
 use Rattle.surf_base.specs.declared.limits.LimitKind.TheVariants.{Loops}

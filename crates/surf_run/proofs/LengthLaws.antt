@@ -1,7 +1,5 @@
 -- The lengths of a file are as many as the edges.
-use Rattle.surf_surfaces.proofs.Common.{◌≡◌, ℕ, Bool, true, false, cond, List, [], ◌∷◌, length, Option, Some, None, Result, Ok, Err, ◌∙◌, eqb, get_or, set, length-set, length-replicate, Mesh, edge_count}
-use Rattle.std.specs.List.{fold}
-use Rattle.std.specs.Prelude.{unwrap_or}
+use Rattle.surf_surfaces.proofs.Common.{◌≡◌, ℕ, Bool, true, false, cond, List, [], ◌∷◌, length, Option, Some, None, Result, Ok, Err, ◌∙◌, eqb, get_or, set, length-set, length-replicate, Mesh, edge_count, fold, unwrap_or}
 use Rattle.surf_text.specs.Text.{TextLine, lines_of}
 use Rattle.surf_lengths.specs.Files.{Named, none_named, name_edge, name_line, all_named, missing_edge, when_read, behind_head, Head, length_head, lengths_in}
 use Rattle.surf_lengths.specs.Lines.{entry_of}

@@ -1,7 +1,6 @@
 -- What is read of the text of a mesh: clean vertex lines and colours, one for each vertex and each face, no longer than
 -- the text, and few sides.
-use Rattle.surf_surfaces.proofs.Common.{◌≡◌, ◌≤◌, ◌+◌, ℕ, zero, suc, Bool, true, false, List, [], ◌∷◌, length, take, drop, Option, Some, None, Result, Ok, Err, refl, sym, ap, ◌∙◌, subst, arith, inl, inr, nat_lt, nat_le, if◌then◌else◌, cases_Bool, cases_lt, lt-ltb, le-ltb, length-drop, sum_by-cons, Mesh, side_count, face_count}
-use Rattle.std.specs.List.{sum_by, slice_split, onto_first, position_or_len}
+use Rattle.surf_surfaces.proofs.Common.{◌≡◌, ◌≤◌, ◌+◌, ℕ, zero, suc, Bool, true, false, List, [], ◌∷◌, length, take, drop, Option, Some, None, Result, Ok, Err, refl, sym, ap, ◌∙◌, subst, arith, inl, inr, nat_lt, nat_le, if◌then◌else◌, cases_Bool, cases_lt, lt-ltb, le-ltb, length-drop, sum_by-cons, Mesh, side_count, face_count, sum_by, slice_split, onto_first, position_or_len}
 use Rattle.std.proofs.lemmas.List.Splits.{slice_split-cons_yes, slice_split-cons_no}
 use Rattle.surf_text.specs.Text.{TextLine, is_blank, is_line_end, uncommented, trimmed_front, before_some, trimmed_back, trimmed, behind_word, behind_words, rest_after, tokens_of, onto_lines, numbered_from, lines_of, whole}
 use Rattle.surf_off.specs.Clean.{IsOffParts}

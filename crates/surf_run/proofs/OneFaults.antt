@@ -1,5 +1,5 @@
 -- The first fault of a mesh that is no surface, or no disc, and that of evidence is one.
-use Rattle.surf_surfaces.proofs.Common.{◌≡◌, ◌≢◌, ℕ, zero, suc, ◌+◌, ◌<◌, ◌≤◌, true, false, List, [], ◌∷◌, length, get_or, take, refl, sym, ap, ◌∙◌, subst, arith, inl, inr, ◌==◌, cases_Bool, cases_eq, true≢false, eqb-true, boundary, Joined, Mesh, pair_lt, pair_eq, among, edges, face_count, edge_count, ends, faces_with, HasCorner, Share, ShareAt, HasOneFan, IsConnected, Chain}
+use Rattle.surf_surfaces.proofs.Common.{◌≡◌, ◌≢◌, ℕ, zero, suc, ◌+◌, ◌<◌, ◌≤◌, true, false, List, [], ◌∷◌, length, get_or, take, refl, sym, ap, ◌∙◌, subst, arith, inl, inr, ◌==◌, cases_Bool, cases_eq, true≢false, eqb-true, boundary, Joined, Mesh, pair_lt, pair_eq, among, edges, face_count, edge_count, ends, faces_with, HasCorner, Share, ShareAt, HasOneFan, IsConnected, Chain, IsBorderEdge, ShareOnBorder}
 use Rattle.surf_treecheck.specs.First.{HoldsBelow, FailsFirst}
 use Rattle.surf_treecheck.proofs.FirstFault.{first_same}
 use Rattle.surf_check.specs.Fault.{IsSurfaceFault}
@@ -21,7 +21,6 @@ use Rattle.surf_soup.specs.Apart.{IsLeastApart}
 use Rattle.surf_soup.specs.Pairs.{degree, HasTwoFaces, IsLeastBorder, IsLeastCrowd}
 use Rattle.surf_soup.specs.Ring.{IsPinch, IsLeastPinch}
 use Rattle.surf_soup.specs.Vertices.{AllMet, IsLeastIsolated}
-use Rattle.surf_surfaces.specs.Disc.{IsBorderEdge, ShareOnBorder}
 use Rattle.surf_surfaces.proofs.meshes.EdgeLaws.{among-contains, list_any_at}
 use Rattle.surf_surfaces.proofs.meshes.PairLaws.{pair_eq-true, pair_lt-total}
 

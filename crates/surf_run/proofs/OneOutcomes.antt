@@ -1,8 +1,7 @@
 -- What is answered of a surface, a mesh or a certificate is one outcome.
-use Rattle.surf_surfaces.proofs.Common.{◌≡◌, inl, inr, ℕ, ◌++◌, List, [], Option, refl, sym, ◌∙◌, ap, arith, length, nat_lt, if◌then◌else◌, codes, IsSurface, ArePositive, IsClosed, parity, walk_length, Loop, loops_at}
+use Rattle.surf_surfaces.proofs.Common.{◌≡◌, inl, inr, ℕ, ◌++◌, List, [], Option, refl, sym, ◌∙◌, ap, arith, length, nat_lt, if◌then◌else◌, codes, IsSurface, ArePositive, IsClosed, parity, walk_length, Loop, loops_at, Mesh, characteristic}
 use Rattle.surf_texts.specs.Outcome.{Outcome, answers, refuses, misses}
 use Rattle.surf_run.specs.Reading.{IsEvidenceText}
-use Rattle.surf_surfaces.specs.Mesh.{Mesh, characteristic}
 use Rattle.surf_answers.specs.Summaries.{total_size, LoopsTotal, BasisTotals, CycleMeasures, GivesSummary}
 use Rattle.surf_texts.specs.SummaryTexts.{measures_text, mesh_counts, genus_text, crosscaps_text}
 use Rattle.surf_disc.proofs.FaultLaws.{fault_only as disc_fault_only}

@@ -1,8 +1,6 @@
 -- What `sew` writes of what `cut` wrote is read as the mesh that was cut.
-use Rattle.surf_surfaces.proofs.Common.{◌≡◌, ◌<◌, ◌≤◌, ◌+◌, ◌*◌, ◌++◌, ℕ, Bool, true, false, List, [], ◌∷◌, length, Option, Some, None, Result, Ok, Err, refl, sym, ap, ◌∙◌, subst, arith, inr, AllByRecursion, sum_by, zip, bytes_eq, length-append, recursion_from_All, sum_by-cons, Mesh, IsFace, side_count, face_count, edge_count, loop_count, IsSurface}
+use Rattle.surf_surfaces.proofs.Common.{◌≡◌, ◌<◌, ◌≤◌, ◌+◌, ◌*◌, ◌++◌, ℕ, Bool, true, false, List, [], ◌∷◌, length, Option, Some, None, Result, Ok, Err, refl, sym, ap, ◌∙◌, subst, arith, inr, AllByRecursion, sum_by, zip, bytes_eq, length-append, recursion_from_All, sum_by-cons, Mesh, IsFace, side_count, face_count, edge_count, loop_count, IsSurface, ltb-false, length-decimal-le, IsOpening}
 use Rattle.std.specs.Prelude.{nat_lt, ◌&&◌, if◌then◌else◌, option_map, codes, decimal}
-use Rattle.std.proofs.lemmas.Bool.{ltb-false}
-use Rattle.std.proofs.lemmas.Fmt.{length-decimal-le}
 use Rattle.surf_base.specs.Outside.{Files, bytes_of}
 use Rattle.surf_base.specs.declared.limits.LimitKind.TheVariants.{Text, Loops}
 use Rattle.surf_disc.proofs.TableLaws.{edges_within}
@@ -19,7 +17,6 @@ use Rattle.surf_sew.specs.declared.fault.SewFault.{SewFault}
 use Rattle.surf_sew.proofs.CutLaws.{opened_are_reread, copies_are_reread, opened_are_sewn, lines_are_sewn, sewn_are_reread}
 use Rattle.surf_sew.proofs.Faults.{sewn_sides}
 use Rattle.surf_sew.proofs.Limits.{limits_are_kept}
-use Rattle.surf_surfaces.specs.Disc.{IsOpening}
 use Rattle.surf_texts.specs.Cause.{misused, refused_by}
 use Rattle.surf_answers.specs.Cuts.{cut_text}
 use Rattle.surf_cutter.specs.Opened.{OpenMesh}

@@ -1,6 +1,5 @@
 -- The text of a file, of which the mesh alone goes on.
-use Rattle.surf_surfaces.proofs.Common.{◌≡◌, ℕ, List, Option, Result, Ok, Err, inl, inr, sym, subst, Mesh, IsSurface}
-use Rattle.std.specs.Prelude.{IfOk, IfSome, IsErrAnd}
+use Rattle.surf_surfaces.proofs.Common.{◌≡◌, ℕ, List, Option, Result, Ok, Err, inl, inr, sym, subst, Mesh, IsSurface, IfOk, IfSome, IsErrAnd}
 use Rattle.surf_base.specs.Outside.{Files}
 use Rattle.surf_off.specs.Off.{OffParts}
 use Rattle.surf_texts.specs.Outcome.{Outcome}

@@ -1,7 +1,6 @@
 -- What `certify` writes passes `check`.
-use Rattle.surf_surfaces.proofs.Common.{◌≡◌, ◌<◌, ◌≤◌, ℕ, false, List, [], ◌∷◌, length, Option, Some, None, Result, Ok, Err, refl, sym, ap, ◌∙◌, subst, arith, inl, le-ltb, Mesh, IsSurface, face_count, edge_count, loop_count, ArePositive, Loop, loops_at, IsChosenBasis, IsLoopCount}
+use Rattle.surf_surfaces.proofs.Common.{◌≡◌, ◌<◌, ◌≤◌, ℕ, false, List, [], ◌∷◌, length, Option, Some, None, Result, Ok, Err, refl, sym, ap, ◌∙◌, subst, arith, inl, le-ltb, Mesh, IsSurface, face_count, edge_count, loop_count, ArePositive, Loop, loops_at, IsChosenBasis, IsLoopCount, All-get_or, All-nil}
 use Rattle.std.specs.Prelude.{nat_lt, option_map, codes}
-use Rattle.std.proofs.lemmas.List.Elements.{All-get_or, All-nil}
 use Rattle.surf_base.specs.Outside.{Files, bytes_of}
 use Rattle.surf_base.specs.declared.limits.LimitKind.TheVariants.{CertificateVertices}
 use Rattle.surf_base.specs.declared.limits.LimitKind.TheVariants as limits

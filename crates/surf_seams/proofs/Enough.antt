@@ -1,6 +1,5 @@
 -- Three points, or two that no edge of the full cut joins, have a cut of two edges or more.
-use Rattle.surf_surfaces.proofs.Common.{◌≡◌, ◌≢◌, ℕ, ◌+◌, ◌<◌, ◌≤◌, inl, inr, sym, ap, ◌∙◌, true, false, length, arith, cases_eq, cases_lt, primal, between, Tree, IsTree, on_path, left_edges, cells_of, split_of, Mesh, face_count, edge_count, ends, touches}
-use Rattle.surf_graphs.proofs.Trees.{path_root}
+use Rattle.surf_surfaces.proofs.Common.{◌≡◌, ◌≢◌, ℕ, ◌+◌, ◌<◌, ◌≤◌, inl, inr, sym, ap, ◌∙◌, true, false, length, arith, cases_eq, cases_lt, primal, between, Tree, IsTree, on_path, left_edges, cells_of, split_of, Mesh, face_count, edge_count, ends, touches, path_root}
 use Rattle.surf_opening.specs.Laws.{cut_count}
 use Rattle.surf_seams.specs.Laws.{TwoPointsAreCut, PointsApartAreLong, ThreePointsAreLong}
 use Rattle.surf_z2.proofs.Counting.{count_some, count_one}

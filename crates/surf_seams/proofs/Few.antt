@@ -1,14 +1,12 @@
 -- Where χ is 2, one point alone has no cut, and two that an edge of the full cut joins have that edge.
 use Rattle.std.proofs.Common.{◌≡◌, ◌≢◌, ℕ, ◌<◌, ◌≤◌, ◌⊎◌, inl, inr, sym, ap, ◌∙◌, Bool, true, false, ◌&&◌, eqb, arith, eqb-true, eq-eqb}
-use Rattle.surf_surfaces.proofs.Common.{cases_Bool, and_from, both_ways, xor, count_below, primal, between, Tree, IsTree, on_path, cells_of, tree_edges, split_of, Mesh, edge_count, ends, touches, IsSurface}
+use Rattle.surf_surfaces.proofs.Common.{cases_Bool, and_from, both_ways, xor, count_below, primal, between, Tree, IsTree, on_path, cells_of, tree_edges, split_of, Mesh, edge_count, ends, touches, IsSurface, tree_edge, path_step, count_mono}
 use Rattle.surf_z2.proofs.ParityLaws.{xor_comm, xor-same, xor_back}
 use Rattle.surf_z2.proofs.Sums.{count_below-none, count_below-one}
-use Rattle.surf_graphs.proofs.Trees.{tree_edge, path_step}
 use Rattle.surf_opening.specs.Laws.{cut_count}
 use Rattle.surf_opening.proofs.counts.CutCounts.{spheres_are_cut_along_trees}
 use Rattle.surf_opening.proofs.cuts.CutLists.{full_is}
 use Rattle.surf_seams.specs.Laws.{OnePointIsNotCut, JoinedPointsAreShort}
-use Rattle.surf_z2.proofs.Counting.{count_mono}
 use Rattle.surf_seams.proofs.Ways.{up_ends, cuts_through_are_ways}
 
 -- there is no way from a vertex to itself

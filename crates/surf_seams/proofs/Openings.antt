@@ -1,7 +1,5 @@
 -- The opening along the cut through given vertices.
-use Rattle.surf_surfaces.proofs.Common.{◌≡◌, ◌≢◌, ℕ, ◌+◌, ◌<◌, ◌≤◌, ◌⊎◌, inl, inr, sym, refl, subst, ap, ◌∙◌, Bool, true, List, [], ◌∷◌, length, get_or, arith, Chain, count_below-same, Tree, Mesh, pair, edge_count, face_at, faces_with, ends, touches, HasEdge, IsSurface, degree_in}
-use Rattle.surf_surfaces.specs.Disc.{IsBorderEdge}
-use Rattle.surf_surfaces.specs.Side.{after, side_pair, corner}
+use Rattle.surf_surfaces.proofs.Common.{◌≡◌, ◌≢◌, ℕ, ◌+◌, ◌<◌, ◌≤◌, ◌⊎◌, inl, inr, sym, refl, subst, ap, ◌∙◌, Bool, true, List, [], ◌∷◌, length, get_or, arith, Chain, count_below-same, Tree, Mesh, pair, edge_count, face_at, faces_with, ends, touches, HasEdge, IsSurface, degree_in, IsBorderEdge, after, side_pair, corner}
 use Rattle.surf_surfaces.proofs.meshes.FaceLaws.{pair_comm}
 use Rattle.surf_opening.specs.ChosenCut.{AreDivided, ListsCotree, full_cut, SameEdges}
 use Rattle.surf_opening.specs.Laws.{TellsCut, cut_count, without}

@@ -1,13 +1,10 @@
 -- The cut through given vertices is in one piece, and each of these is on it where it has an edge.
 use Rattle.std.proofs.Common.{◌≡◌, ◌≢◌, ℕ, zero, suc, ◌<◌, ◌≤◌, ◌⊎◌, inl, inr, sym, refl, subst, ap, ◌∙◌, cond, Bool, true, false, ◌||◌, eqb, arith, eqb-true, eq-eqb, ne_eqb}
-use Rattle.std.proofs.lemmas.Bool.{cases_eq, cases_lt, cond-true, cond-false, or_cases, or_left, or_right, both_ways}
-use Rattle.surf_surfaces.proofs.Common.{Chain, primal, Tree, IsTree, cells_of, tree_edges, is_left, Mesh, edge_count, ends, touches, IsSurface, degree_in}
-use Rattle.surf_graphs.proofs.Trees.{one_of, up_in_tree}
+use Rattle.surf_surfaces.proofs.Common.{cases_eq, cases_lt, cond-true, cond-false, or_cases, or_left, or_right, both_ways, Chain, primal, Tree, IsTree, cells_of, tree_edges, is_left, Mesh, edge_count, ends, touches, IsSurface, degree_in, one_of, up_in_tree, count_found}
 use Rattle.surf_surfaces.proofs.meshes.CellLaws.{ends_below}
 use Rattle.surf_opening.specs.ChosenCut.{AreDivided, full_cut, SameEdges}
 use Rattle.surf_seams.specs.Through.{IsTakenBackTo, whole, taken, IsInOnePiece, IsOnCut}
 use Rattle.surf_seams.specs.Laws.{CutsThroughAreConnected, PointsAreOnCut}
-use Rattle.surf_z2.proofs.Counting.{count_found}
 use Rattle.surf_seams.proofs.Taking.{degree_some, degree_found, loose_only, left_with, left_from, take_all, through_is_taken}
 
 -- the ends of an edge that has a vertex

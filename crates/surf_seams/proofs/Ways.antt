@@ -1,8 +1,7 @@
 -- Where χ is 2, the cut through given vertices is the union of the ways in the tree between them.
 use Rattle.std.proofs.Common.{◌≡◌, ◌≢◌, ℕ, zero, suc, ◌+◌, ◌<◌, ◌≤◌, ◌⊎◌, inl, inr, sym, refl, subst, ap, ◌∙◌, Bool, true, false, not, ◌&&◌, eqb, arith, eq-eqb, ne_eqb}
-use Rattle.surf_surfaces.proofs.Common.{cases_eq, cases_Bool, and_parts, and_from, not-true, eqb-false, both_ways, xor, odd_below, any_below, count_below, Chain, primal, between, Tree, IsTree, in_tree, on_path, cells_of, tree_edges, split_of, Mesh, edge_count, ends, touches, IsSurface, degree_in}
+use Rattle.surf_surfaces.proofs.Common.{cases_eq, cases_Bool, and_parts, and_from, not-true, eqb-false, both_ways, xor, odd_below, any_below, count_below, Chain, primal, between, Tree, IsTree, in_tree, on_path, cells_of, tree_edges, split_of, Mesh, edge_count, ends, touches, IsSurface, degree_in, Graph, leaves}
 use Rattle.surf_z2.proofs.ParityLaws.{xor-same, and_comm, any_below-found, any_below-from, odd_below-same, odd_below-only, odd_below-and-xor}
-use Rattle.surf_graphs.specs.Graphs.{Graph, leaves}
 use Rattle.surf_graphs.proofs.Trees.{tree_edge, path_root, path_step, one_of, up_once, path_inside, along_is, path_leaves}
 use Rattle.surf_surfaces.proofs.walks.EvenLaws.{touches-xor}
 use Rattle.surf_opening.specs.ChosenCut.{full_cut}

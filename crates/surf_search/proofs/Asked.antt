@@ -1,9 +1,5 @@
 -- Caps as great as edges ask for meet all closed walks, so what is kept has the places of the basis.
-use Rattle.surf_surfaces.proofs.Common.{◌≡◌, ℕ, zero, suc, ◌<◌, ◌≤◌, ◌^◌, true, List, [], ◌∷◌, length, get_or, map, take, All, Option, Some, None, refl, sym, ap, ◌∙◌, subst, arith, inl, inr, IsTrue, nat_le, slice_index, min, cases_Bool, cases_lt, leb-true, le-leb, or_left, or_right, and_from, false≢true, nat_tests, IsInOrder, numbers, Spanned, sorted_from_order, order_from_sorted, Split, IsSplit, signature, Tree, Mesh, edge_count, ends, IsSurface, ArePositive, IsLoopCount, cells_of, class_of, AreShortestTrees, edge_signature, Trees, AreChosen, Loop, IsChosenBasis}
-use Rattle.std.proofs.lemmas.List.{length-map, take-map, get_or-map}
-use Rattle.std.proofs.lemmas.List.Elements.{recursion_from_All, All-from_recursion, All-take}
-use Rattle.surf_z2.proofs.Below.{small}
-use Rattle.surf_surfaces.specs.FewBases.{Place, is_no_later, Found, HasFound, IsWithin, walks_found, comes_no_later, place_of_loop}
+use Rattle.surf_surfaces.proofs.Common.{◌≡◌, ℕ, zero, suc, ◌<◌, ◌≤◌, ◌^◌, true, List, [], ◌∷◌, length, get_or, map, take, All, Option, Some, None, refl, sym, ap, ◌∙◌, subst, arith, inl, inr, IsTrue, nat_le, slice_index, min, cases_Bool, cases_lt, leb-true, le-leb, or_left, or_right, and_from, false≢true, nat_tests, IsInOrder, numbers, Spanned, sorted_from_order, order_from_sorted, Split, IsSplit, signature, Tree, Mesh, edge_count, ends, IsSurface, ArePositive, IsLoopCount, cells_of, class_of, AreShortestTrees, edge_signature, Trees, AreChosen, Loop, IsChosenBasis, length-map, take-map, get_or-map, recursion_from_All, All-from_recursion, All-take, small, Place, is_no_later, Found, HasFound, IsWithin, walks_found, comes_no_later, place_of_loop}
 use Rattle.surf_surfaces.proofs.classes.LeastLaws.{all_mapped}
 use Rattle.surf_firsts.specs.Near.{IsSoughtFromStart}
 use Rattle.surf_caps.specs.Heights.{AreHeights}

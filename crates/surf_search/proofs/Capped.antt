@@ -1,10 +1,7 @@
 -- What is kept of the loops at vertices that are searched as far as their caps, search by search.
-use Rattle.surf_surfaces.proofs.Common.{◌≡◌, ℕ, ◌<◌, ◌≤◌, ◌^◌, Bool, true, eqb, List, [], ◌∷◌, ◌++◌, length, get_or, set, map, All, IsPermutation, Option, refl, sym, ap, ◌∙◌, subst, arith, inl, inr, IsTrue, ◌&&◌, cases_eq, or_left, or_right, and_parts, and_from, false≢true, nat_tests, merge, Split, IsSplit, Tree, Mesh, edge_count, IsSurface, ArePositive, IsNull, cells_of, class_of, AreShortestTrees, loop_walk, Place, place_at, comes_no_later}
+use Rattle.surf_surfaces.proofs.Common.{◌≡◌, ℕ, ◌<◌, ◌≤◌, ◌^◌, Bool, true, eqb, List, [], ◌∷◌, ◌++◌, length, get_or, set, map, All, IsPermutation, Option, refl, sym, ap, ◌∙◌, subst, arith, inl, inr, IsTrue, ◌&&◌, cases_eq, or_left, or_right, and_parts, and_from, false≢true, nat_tests, merge, Split, IsSplit, Tree, Mesh, edge_count, IsSurface, ArePositive, IsNull, cells_of, class_of, AreShortestTrees, loop_walk, Place, place_at, comes_no_later, Contains-permutation, IsPermutation-map, IsPermutation-sym, no_member, chosen, Sorted, sorted_from_order, order_from_sorted, same_members}
 use Rattle.std.proofs.lemmas.List.{map-append, get_or-set_same, get_or-set_other}
 use Rattle.std.proofs.lemmas.List.Elements.{Contains-append_left, Contains-append_cases}
-use Rattle.std.proofs.lemmas.List.Sorted.{Contains-permutation, IsPermutation-map, IsPermutation-sym}
-use Rattle.surf_z2.specs.Space.{no_member, chosen}
-use Rattle.surf_z2.proofs.Merge.{Sorted, sorted_from_order, order_from_sorted, same_members}
 use Rattle.surf_surfaces.proofs.bases.FirstFoundLaws.{loop_closed}
 use Rattle.surf_caps.specs.Caps.{with_places, everywhere, up_to_length, ChoiceKeeps}
 use Rattle.surf_caps.proofs.Grow.{caps_grow_enough}

@@ -1,6 +1,5 @@
 -- The first of the loops that a search tells, without a list of them.
-use Rattle.surf_surfaces.proofs.Common.{◌≡◌, ℕ, ◌<◌, ◌≤◌, ◌+◌, true, false, List, [], ◌∷◌, ◌++◌, length, All, Option, Some, None, refl, sym, ◌∙◌, ap, inl, inr, slice_index, cases_Bool, both_ways, edge_count, ends}
-use Rattle.std.proofs.lemmas.List.Sums.{fold-append}
+use Rattle.surf_surfaces.proofs.Common.{◌≡◌, ℕ, ◌<◌, ◌≤◌, ◌+◌, true, false, List, [], ◌∷◌, ◌++◌, length, All, Option, Some, None, refl, sym, ◌∙◌, ap, inl, inr, slice_index, cases_Bool, both_ways, edge_count, ends, fold-append}
 use Rattle.surf_near.specs.declared.links.Link.{Link}
 use Rattle.surf_near.specs.Links.{AreLinksAt, link_in}
 use Rattle.surf_choice.specs.declared.candidate.Candidate.{Candidate}

@@ -1,10 +1,9 @@
 -- Vertices that are marked in a table, listed one after another.
 use Rattle.std.proofs.Common.{◌≡◌, ℕ, ◌<◌, ◌≤◌, ◌+◌, Bool, true, false, List, [], ◌∷◌, ◌++◌, length, set, slice_index, take, Contains, refl, sym, ap, ◌∙◌, subst, arith, inl, inr, length-append}
-use Rattle.surf_surfaces.proofs.Common.{slice_index_or, ◌⊎◌, cases_lt, cases_eq, Mesh, edge_count, ends, IsSurface}
+use Rattle.surf_surfaces.proofs.Common.{slice_index_or, ◌⊎◌, cases_lt, cases_eq, Mesh, edge_count, ends, IsSurface, Contains-append_left, Contains-append_right}
 use Rattle.std.proofs.Math.ListN.{get_or-append}
 use Rattle.std.proofs.Math.Seq.{get_or-append_seam, take-append_seam}
 use Rattle.std.proofs.lemmas.List.{get_or-set_same, get_or-set_other}
-use Rattle.std.proofs.lemmas.List.Elements.{Contains-append_left, Contains-append_right}
 use Rattle.surf_surfaces.proofs.meshes.CellLaws.{ends_in}
 use Rattle.surf_search.specs.Marks.{AreMarkedIn}
 

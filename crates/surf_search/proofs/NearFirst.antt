@@ -1,6 +1,5 @@
 -- The first of the loops at the vertices of a set stays the first with vertices near one where all loops are longer.
-use Rattle.surf_surfaces.proofs.Common.{◌≡◌, ◌≢◌, ℕ, ◌<◌, ◌≤◌, ◌+◌, ◌*◌, Bool, true, false, List, [], ◌∷◌, Option, Some, sym, ◌∙◌, subst, arith, inl, inr, cases_Bool, cases_eq, false≢true, nat_tests, xor-false, Split, IsSplit, Tree, Mesh, edge_count, IsSurface, ArePositive, parity, IsNull, cells_of, class_of, AreShortestTrees, loop_walk, loop_length, DependsOn}
-use Rattle.surf_surfaces.specs.FewBases.{Place, is_no_later, comes_sooner, place_at, AreEnoughOf}
+use Rattle.surf_surfaces.proofs.Common.{◌≡◌, ◌≢◌, ℕ, ◌<◌, ◌≤◌, ◌+◌, ◌*◌, Bool, true, false, List, [], ◌∷◌, Option, Some, sym, ◌∙◌, subst, arith, inl, inr, cases_Bool, cases_eq, false≢true, nat_tests, xor-false, Split, IsSplit, Tree, Mesh, edge_count, IsSurface, ArePositive, parity, IsNull, cells_of, class_of, AreShortestTrees, loop_walk, loop_length, DependsOn, Place, is_no_later, comes_sooner, place_at, AreEnoughOf}
 use Rattle.surf_surfaces.proofs.bases.ChoiceExists.{choice_exists}
 use Rattle.surf_surfaces.proofs.classes.ClassLaws.{null_by_class}
 use Rattle.surf_surfaces.proofs.bases.FirstCycleLaws.{shortest_trees}

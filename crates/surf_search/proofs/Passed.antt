@@ -1,6 +1,5 @@
 -- Links that the listing of loops passes over.
-use Rattle.surf_surfaces.proofs.Common.{◌≡◌, ◌≢◌, ◌⊎◌, ℕ, ◌<◌, ◌≤◌, true, false, not, List, length, get_or, slice_index, bit_xor, inl, inr, sym, ap, ◌∙◌, subst, arith, ◌==◌, and_parts, false≢true, nat_tests, get_or_default, Mesh, IsMesh, edge_count, ends}
-use Rattle.std.specs.Int.Bits.{xor_self, xor_zero_r}
+use Rattle.surf_surfaces.proofs.Common.{◌≡◌, ◌≢◌, ◌⊎◌, ℕ, ◌<◌, ◌≤◌, true, false, not, List, length, get_or, slice_index, bit_xor, inl, inr, sym, ap, ◌∙◌, subst, arith, ◌==◌, and_parts, false≢true, nat_tests, get_or_default, Mesh, IsMesh, edge_count, ends, xor_self, xor_zero_r}
 use Rattle.surf_surfaces.proofs.meshes.CellLaws.{ends_below}
 use Rattle.surf_near.specs.declared.links.Link.{Link}
 use Rattle.surf_near.specs.Links.{AreLinksAt, link_in}

@@ -1,9 +1,7 @@
 -- Vertices near one that was searched, which are passed over where the loops found there are all longer than those kept,
 -- though the search went by lengths that bar the ways through vertices for which what is kept is enough.
 use Rattle.std.proofs.Common.{◌≡◌, ℕ, suc, ◌<◌, ◌≤◌, ◌+◌, ◌*◌, ◌⊎◌, Bool, true, false, eqb, leb, le-leb, List, [], ◌∷◌, length, get_or, map, filter, take, All, Contains, Option, Some, None, sym, ap, ◌∙◌, subst, arith, inl, inr, set, get_or-set_other}
-use Rattle.surf_surfaces.proofs.Common.{IsTrue, ◌||◌, ◌==◌, replicate, slice_index, AllByRecursion, cases_eq, cases_lt, false≢true, or_cases, or_left, or_right, eq-eqb, eqb-true, nat_tests, get_or-take, get_or_default, get_or_past, get_or-replicate, length-replicate, length-take-le, recursion_from_All, All-contains, Contains-get_or, map-map, IsInOrder, numbers, Spanned, InSpan, AllInSpan, trans_in, in_from_spanned, spanned_from_in, Split, IsSplit, Tree, Mesh, edge_count, IsSurface, IsClosed, ArePositive, cells_of, class_of, AreShortestTrees, loop_walk, loop_length, DependsOn}
-use Rattle.surf_z2.proofs.Passing.{member_in, all_filtered}
-use Rattle.surf_surfaces.specs.FewBases.{Place, is_no_later, comes_sooner, place_at, least_base, Found, walks_found, with_vertex}
+use Rattle.surf_surfaces.proofs.Common.{IsTrue, ◌||◌, ◌==◌, replicate, slice_index, AllByRecursion, cases_eq, cases_lt, false≢true, or_cases, or_left, or_right, eq-eqb, eqb-true, nat_tests, get_or-take, get_or_default, get_or_past, get_or-replicate, length-replicate, length-take-le, recursion_from_All, All-contains, Contains-get_or, map-map, IsInOrder, numbers, Spanned, InSpan, AllInSpan, trans_in, in_from_spanned, spanned_from_in, Split, IsSplit, Tree, Mesh, edge_count, IsSurface, IsClosed, ArePositive, cells_of, class_of, AreShortestTrees, loop_walk, loop_length, DependsOn, member_in, all_filtered, Place, is_no_later, comes_sooner, place_at, least_base, Found, walks_found, with_vertex}
 use Rattle.surf_surfaces.proofs.bases.CoveredLaws.{contains-map}
 use Rattle.surf_surfaces.proofs.bases.ChoiceExists.{choice_exists}
 use Rattle.surf_surfaces.proofs.bases.FirstCycleLaws.{shortest_trees}

@@ -1,7 +1,6 @@
 -- A loop that was found has its own place.
 use Rattle.std.proofs.Common.{◌≡◌, ℕ, zero, suc, Bool, true, false, eqb, eq-eqb, cond, List, [], ◌∷◌, length, map, filter, Contains, refl, subst, arith}
-use Rattle.surf_surfaces.proofs.Common.{or_right, Tree, Mesh}
-use Rattle.surf_surfaces.specs.FewBases.{Found, place_of_found}
+use Rattle.surf_surfaces.proofs.Common.{or_right, Tree, Mesh, Found, place_of_found}
 use Rattle.surf_choice.specs.declared.candidate.Signed.{Signed}
 use Rattle.surf_search.specs.Found.{found_of}
 use Rattle.surf_search.specs.Places.{lengths_at, has_length, is_placed}

@@ -1,13 +1,7 @@
 -- What is kept of the loops at the vertices of a list, vertex by vertex.
 use Rattle.std.proofs.Common.{◌≡◌, ◌≢◌, ℕ, zero, suc, ◌<◌, ◌≤◌, ◌+◌, ◌^◌, ◌⊎◌, Bool, true, false, eqb, List, [], ◌∷◌, ◌++◌, length, get_or, map, take, All, Contains, IsPermutation, Option, Some, None, refl, sym, ap, ◌∙◌, subst, arith, inl, inr, eqb-true}
-use Rattle.surf_surfaces.proofs.Common.{IsTrue, nat_le, ◌==◌, AllByRecursion, cases_Bool, cases_eq, leb-true, or_cases, or_left, or_right, nat_tests, take_more, length-map, map-append, greedy, merge, numbers, is_nothing, chosen, Independent, Decides-is_nothing, xor-false, Split, IsSplit, Tree, Mesh, edge_count, IsSurface, IsClosed, ArePositive, parity, IsNull, IsIndependent, IsLoopCount, cells_of, class_of, AreShortestTrees, loop_walk, DependsOn}
+use Rattle.surf_surfaces.proofs.Common.{IsTrue, nat_le, ◌==◌, AllByRecursion, cases_Bool, cases_eq, leb-true, or_cases, or_left, or_right, nat_tests, take_more, length-map, map-append, greedy, merge, numbers, is_nothing, chosen, Independent, Decides-is_nothing, xor-false, Split, IsSplit, Tree, Mesh, edge_count, IsSurface, IsClosed, ArePositive, parity, IsNull, IsIndependent, IsLoopCount, cells_of, class_of, AreShortestTrees, loop_walk, DependsOn, Contains-permutation, All-permutation, IsPermutation-map, IsPermutation-sym, greedy_law, all_kept as greedy_spans, Sorted, sorted_from_order, order_from_sorted, same_members, sorted_greedy, AllInSpan, InSpan, count, free_from_independent, Place, place_at, Found, walks_found, IsFoundAt, IsFoundLoop, AreEnoughOf, AreEnough, AreFoundAt, IsFoundChoice, comes_no_later, every_place, with_vertex, IsWithin}
 use Rattle.std.proofs.lemmas.List.Elements.{recursion_from_All, All-from_recursion, All-contains, Contains-append_left, Contains-append_cases, Contains-get_or}
-use Rattle.std.proofs.lemmas.List.Sorted.{Contains-permutation, All-permutation, IsPermutation-map, IsPermutation-sym}
-use Rattle.surf_z2.proofs.Greedy.{greedy_law, all_kept as greedy_spans}
-use Rattle.surf_z2.proofs.Merge.{Sorted, sorted_from_order, order_from_sorted, same_members}
-use Rattle.surf_z2.proofs.Passing.{sorted_greedy}
-use Rattle.surf_z2.proofs.Span.{AllInSpan, InSpan, count, free_from_independent}
-use Rattle.surf_surfaces.specs.FewBases.{Place, place_at, Found, walks_found, IsFoundAt, IsFoundLoop, AreEnoughOf, AreEnough, AreFoundAt, IsFoundChoice, comes_no_later, every_place, with_vertex, IsWithin}
 use Rattle.surf_surfaces.proofs.bases.CoveredLaws.{contains-map}
 use Rattle.surf_surfaces.proofs.bases.ChoiceExists.{choice_exists}
 use Rattle.surf_surfaces.proofs.classes.ClassLaws.{null_by_class, independent_by_classes}

@@ -1,6 +1,5 @@
 -- How many signatures there are, and how great they are.
-use Rattle.surf_surfaces.proofs.Common.{◌≡◌, ℕ, ◌<◌, ◌^◌, List, length, ap, ◌∙◌, subst, length-map-range_with_len, Split, chain_signature, Mesh, edge_count, parity, cells_of, class_of, edge_signature}
-use Rattle.surf_z2.proofs.Below.{small}
+use Rattle.surf_surfaces.proofs.Common.{◌≡◌, ℕ, ◌<◌, ◌^◌, List, length, ap, ◌∙◌, subst, length-map-range_with_len, Split, chain_signature, Mesh, edge_count, parity, cells_of, class_of, edge_signature, small}
 use Rattle.surf_cotree.specs.Tables.{CotreeTables}
 use Rattle.surf_search.specs.Signing.{AreSigned}
 

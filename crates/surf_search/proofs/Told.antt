@@ -1,9 +1,7 @@
 -- What the tables of a search tell of the loops at its base.
 use Rattle.std.proofs.Common.{◌≡◌, ◌≢◌, ℕ, zero, suc, ◌<◌, ◌≤◌, ◌+◌, ◌*◌, ◌/◌, ◌^◌, ◌++◌, ◌∷◌, [], true, false, not, ltb, eqb, eqb-true, cond, ◌-◌, List, length, get_or, map, slice_index, bit_xor, min, All, Contains, Option, Some, None, refl, sym, ap, ◌∙◌, subst, arith, inl, inr}
-use Rattle.surf_surfaces.proofs.Common.{IsTrue, ◌==◌, cases_Bool, cases_eq, cases_lt, and_parts, and_from, leb-true, le-leb, ltb-true, nat_tests, get_or_default, get_or_read, length-map, get_or-map, Split, Tree, Mesh, edge_count, ends, IsSurface, ArePositive, edge_length, edge_number, AreShortestTrees, loop_length, Trees, AreChosen, edge_signature}
+use Rattle.surf_surfaces.proofs.Common.{IsTrue, ◌==◌, cases_Bool, cases_eq, cases_lt, and_parts, and_from, leb-true, le-leb, ltb-true, nat_tests, get_or_default, get_or_read, length-map, get_or-map, Split, Tree, Mesh, edge_count, ends, IsSurface, ArePositive, edge_length, edge_number, AreShortestTrees, loop_length, Trees, AreChosen, edge_signature, All-push, Contains-append_left, Contains-append_right, place_at, comes_sooner, least_base, least_on_way}
 use Rattle.std.specs.Int.Bits.{xor_assoc, xor_comm}
-use Rattle.std.proofs.lemmas.List.Elements.{All-push, Contains-append_left, Contains-append_right}
-use Rattle.surf_surfaces.specs.FewBases.{place_at, comes_sooner, least_base, least_on_way}
 use Rattle.surf_surfaces.proofs.bases.FirstCycleLaws.{shortest_trees}
 use Rattle.surf_surfaces.proofs.bases.FirstFoundLaws.{ends_are_near}
 use Rattle.surf_surfaces.proofs.walks.OnTheWayLaws.{zero_distance, least_tables_are_least}

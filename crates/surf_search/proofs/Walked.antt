@@ -1,6 +1,5 @@
 -- Ways up to the base of a search, and the loops of edges by them.
-use Rattle.surf_surfaces.proofs.Common.{◌≡◌, ◌≢◌, ℕ, ◌<◌, ◌≤◌, ◌/◌, ◌∷◌, ◌++◌, [], true, List, reverse, slice_index, sym, ap, ◌∙◌, subst, arith, leb-true, le-leb, primal, Tree, IsTree, Mesh, ends, IsSurface, ArePositive, cells_of, IsShortestTree}
-use Rattle.surf_graphs.specs.Loops.{way_up, way_down}
+use Rattle.surf_surfaces.proofs.Common.{◌≡◌, ◌≢◌, ℕ, ◌<◌, ◌≤◌, ◌/◌, ◌∷◌, ◌++◌, [], true, List, reverse, slice_index, sym, ap, ◌∙◌, subst, arith, leb-true, le-leb, primal, Tree, IsTree, Mesh, ends, IsSurface, ArePositive, cells_of, IsShortestTree, way_up, way_down}
 use Rattle.surf_graphs.proofs.Ways.{ways_go_by_parents}
 use Rattle.surf_surfaces.proofs.bases.ChoiceExists.{choice_exists}
 use Rattle.surf_surfaces.proofs.bases.FirstCycleLaws.{shortest_trees}

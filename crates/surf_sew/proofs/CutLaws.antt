@@ -1,12 +1,11 @@
 -- What is sewn of a mesh that was cut is that mesh.
 use Rattle.std.proofs.Common.{◌≡◌, ◌≢◌, ◌<◌, ◌≤◌, ◌+◌, ◌^◌, ℕ, Bool, false, List, [], ◌∷◌, ◌++◌, length, get_or, map, Option, None, Ok, Err, refl, sym, ◌∙◌, ap, subst, append_assoc, length-append, arith, inl, inr, cond, eq-eqb}
-use Rattle.surf_surfaces.proofs.Common.{◌==◌, slice_index, AllPairs, get_or-map-range_with_len, length-map-range_with_len, sum_by-cons, Mesh, IsFace, edge_count, side_count}
+use Rattle.surf_surfaces.proofs.Common.{◌==◌, slice_index, AllPairs, get_or-map-range_with_len, length-map-range_with_len, sum_by-cons, Mesh, IsFace, edge_count, side_count, bytes_eq-Decides}
 use Rattle.std.specs.List.{All, list_any, sum_by}
 use Rattle.std.proofs.lemmas.Bool.{cases_lt, ne_eqb, not_from_true}
 use Rattle.std.proofs.lemmas.List.{ext_get_or, length-map, get_or-map, get_or_past, get_or_at, get_or_append_left}
 use Rattle.std.proofs.lemmas.List.Elements.{All-tail, All-head, All-map}
 use Rattle.std.proofs.lemmas.List.Folds.{list_any_at, list_any_none}
-use Rattle.std.proofs.lemmas.Slice.Eq.{bytes_eq-Decides}
 use Rattle.surf_disc.proofs.TableLaws.{edges_within}
 use Rattle.surf_off.specs.Clean.{IsVertexLine, IsOffParts}
 use Rattle.surf_off.specs.Off.{OffParts, first_repeat, off_without_limits}

@@ -1,6 +1,5 @@
 -- The copy lines of the text of an opened mesh.
-use Rattle.surf_surfaces.proofs.Common.{◌≡◌, ◌<◌, ◌+◌, ◌^◌, ℕ, zero, suc, List, [], ◌∷◌, ◌++◌, length, map, Ok, refl, sym, ◌∙◌, ap, append_assoc, arith, codes, decimal, slice_index, false, list_any, zip, range_with_len, length-map-range_with_len, get_or-map-range_with_len}
-use Rattle.std.proofs.lemmas.List.{ext_get_or}
+use Rattle.surf_surfaces.proofs.Common.{◌≡◌, ◌<◌, ◌+◌, ◌^◌, ℕ, zero, suc, List, [], ◌∷◌, ◌++◌, length, map, Ok, refl, sym, ◌∙◌, ap, append_assoc, arith, codes, decimal, slice_index, false, list_any, zip, range_with_len, length-map-range_with_len, get_or-map-range_with_len, ext_get_or}
 use Rattle.surf_text.specs.Text.{is_line_end, is_comment_sign}
 use Rattle.surf_off.specs.declared.header.Header.{Header}
 use Rattle.surf_off.specs.declared.header.Header.TheVariants.{Off, Coff, Noff, Cnoff, Stoff, Stcoff, Stnoff, Stcnoff}

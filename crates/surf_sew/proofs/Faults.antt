@@ -1,7 +1,6 @@
 -- The first fault of copies and their origins.
-use Rattle.surf_surfaces.proofs.Common.{◌≡◌, ◌≢◌, ◌<◌, ◌≤◌, ◌+◌, ℕ, Bool, true, false, not, List, [], ◌∷◌, length, get_or, drop, Option, Some, None, refl, sym, ◌∙◌, ap, arith, slice_index, AllPairs, option_map, sum_by-cons, Mesh, IsFace}
+use Rattle.surf_surfaces.proofs.Common.{◌≡◌, ◌≢◌, ◌<◌, ◌≤◌, ◌+◌, ℕ, Bool, true, false, not, List, [], ◌∷◌, length, get_or, drop, Option, Some, None, refl, sym, ◌∙◌, ap, arith, slice_index, AllPairs, option_map, sum_by-cons, Mesh, IsFace, length-map, get_or-map, at_drop_more, at_drop_all}
 use Rattle.std.specs.List.{All, sum_by}
-use Rattle.std.proofs.lemmas.List.{length-map, get_or-map, at_drop_more, at_drop_all}
 use Rattle.std.proofs.lemmas.List.Elements.{All-map}
 use Rattle.surf_off.specs.Off.{first_repeat}
 use Rattle.surf_off.proofs.FaceRows.{other_default}

@@ -1,7 +1,5 @@
 -- Tables of least copies.
-use Rattle.surf_surfaces.proofs.Common.{◌≡◌, ◌<◌, ◌+◌, ℕ, List, length, get_or, refl, sym, ◌∙◌, arith, get_or-map-range_with_len, length-map-range_with_len, eq-eqb}
-use Rattle.std.proofs.lemmas.List.{ext_get_or}
-use Rattle.std.proofs.lemmas.List.Folds.{list_any_at}
+use Rattle.surf_surfaces.proofs.Common.{◌≡◌, ◌<◌, ◌+◌, ℕ, List, length, get_or, refl, sym, ◌∙◌, arith, get_or-map-range_with_len, length-map-range_with_len, eq-eqb, ext_get_or, list_any_at}
 use Rattle.surf_sew.specs.Sewing.{first_copy, first_like, first_copies}
 use Rattle.surf_sew.proofs.Gaps.{among_copy}
 

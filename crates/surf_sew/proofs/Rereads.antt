@@ -1,7 +1,6 @@
 -- The text of a sewn mesh, and what it is read as.
-use Rattle.surf_surfaces.proofs.Common.{◌≡◌, ◌<◌, ◌^◌, ℕ, List, [], ◌∷◌, ◌++◌, length, Ok, refl, sym, ◌∙◌, ap, subst, arith, length-map, append-nil, length-range_with_len, Mesh, IsMesh, edge_count}
+use Rattle.surf_surfaces.proofs.Common.{◌≡◌, ◌<◌, ◌^◌, ℕ, List, [], ◌∷◌, ◌++◌, length, Ok, refl, sym, ◌∙◌, ap, subst, arith, length-map, append-nil, length-range_with_len, Mesh, IsMesh, edge_count, All-head, All-tail}
 use Rattle.std.specs.List.{All, zip, range_with_len}
-use Rattle.std.proofs.lemmas.List.Elements.{All-head, All-tail}
 use Rattle.surf_off.specs.Clean.{IsVertexLine, IsOffParts}
 use Rattle.surf_off.specs.Off.{OffParts}
 use Rattle.surf_off.specs.Written.{head_text, lines_text, faces_text, lines_at}

@@ -1,7 +1,6 @@
 -- Ways through a tree, climbed from both ends.
-use Rattle.surf_surfaces.proofs.Common.{ℕ, ◌<◌, ◌≡◌, ◌≢◌, ◌⊎◌, inl, inr, false, eqb, ap, sym, ◌∙◌, Graph, between, Tree, IsTree, on_path}
+use Rattle.surf_surfaces.proofs.Common.{ℕ, ◌<◌, ◌≡◌, ◌≢◌, ◌⊎◌, inl, inr, false, eqb, ap, sym, ◌∙◌, Graph, between, Tree, IsTree, on_path, path_step}
 use Rattle.surf_z2.specs.Parity.{xor, xor_assoc, xor_comm, xor-same}
-use Rattle.surf_graphs.proofs.Trees.{path_step}
 
 -- one step up from one of two nodes
 pub climbed : (g : Graph) (t : Tree) → IsTree g t → (n m e : ℕ) → n < g.nodes → n ≢ t.root →

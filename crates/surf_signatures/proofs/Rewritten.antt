@@ -1,13 +1,9 @@
 -- Rows of a flat table of which one is written anew.
 use Rattle.std.proofs.Common.{ℕ, suc, ◌<◌, ◌≤◌, ◌≡◌, ◌+◌, ◌-◌, ◌*◌, ◌^◌, refl, sym, ap, ◌∙◌, arith, inl, inr, List, [], ◌∷◌, length, map, take, drop, set, get_or, get_or-set_same, get_or-set_other, cond, true, false, bit_xor, ltb, eqb, eq-eqb, ne_eqb}
 use Rattle.std.proofs.Math.Nat.{mul-le-mul_right}
-use Rattle.surf_surfaces.proofs.Common.{cases_eq, cases_lt, cases_Bool, lt-ltb, le-ltb, number, has}
-use Rattle.std.proofs.lemmas.Nat.Bits.{bit_at-zero}
-use Rattle.std.proofs.lemmas.Grind.{same_number_lists}
-use Rattle.std.proofs.lemmas.List.{get_or-take, get_or-drop, get_or_past, get_or-append_right, get_or-map, length-map, length-set, length-take-le}
+use Rattle.surf_surfaces.proofs.Common.{cases_eq, cases_lt, cases_Bool, lt-ltb, le-ltb, number, has, bit_at-zero, same_number_lists, get_or-take, get_or-drop, get_or_past, get_or-append_right, get_or-map, length-map, length-set, length-take-le, number_zero}
 use Rattle.std.proofs.lemmas.Slice.{take-put_mid, take-put_mid_below, drop-put_mid}
 use borrow.Rule.Slice.PartMut.{put_mid}
-use Rattle.surf_z2.proofs.Words.{number_zero}
 use Rattle.surf_signatures.specs.Tables.{row_of, sets_in, added_where}
 use Rattle.surf_signatures.proofs.Toggling.{below_more}
 use Rattle.surf_signatures.proofs.Written.{row_word, row_past, row_zero, rows-length, rows-at}

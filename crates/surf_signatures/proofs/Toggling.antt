@@ -1,7 +1,6 @@
 -- Bits that are turned in a flat table.
 use Rattle.std.proofs.Common.{ℕ, ◌<◌, ◌≡◌, ◌≢◌, ◌+◌, ◌*◌, ◌/◌, ◌%◌, ◌^◌, refl, sym, ◌∙◌, arith, inl, inr, List, length, set, Bool, true, false, ◌&&◌, eqb, eq-eqb, ne_eqb, ltb, lt-ltb, get_or-set_same, get_or-set_other, bit_xor}
-use Rattle.std.specs.Int.{bit_at}
-use Rattle.surf_surfaces.proofs.Common.{cases_eq, cases_lt, le-ltb, xor, xor-false}
+use Rattle.surf_surfaces.proofs.Common.{bit_at, cases_eq, cases_lt, le-ltb, xor, xor-false}
 use Rattle.std.proofs.lemmas.Nat.{mul-add-lt}
 use Rattle.std.proofs.lemmas.Nat.Bits.{bit_at_xor, bit_at-pow_same, bit_at-pow_other, bit_at-lt}
 use Rattle.surf_base.specs.Tables.{at}

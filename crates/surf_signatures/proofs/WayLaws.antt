@@ -1,7 +1,5 @@
 -- Signatures of ways up a tree, and of loops.
-use Rattle.surf_surfaces.proofs.Common.{◌≡◌, ◌≢◌, ℕ, ◌<◌, ◌&&◌, List, false, eqb, length, bit_xor, ap, ◌∙◌, xor, same_from, primal, Split, signature, chain_signature, signature_of, Tree, IsTree, IsShortest, on_path, loop, signature_of-same, signature_of-linear, Mesh, edge_count, ends, IsSurface, edge_length, parity, cells_of, class_of, loop_walk, edge_signature}
-use Rattle.surf_z2.proofs.ParityLaws.{eqb_comm, odd_below-same, odd_below-one}
-use Rattle.surf_graphs.proofs.Trees.{path_root, path_step}
+use Rattle.surf_surfaces.proofs.Common.{◌≡◌, ◌≢◌, ℕ, ◌<◌, ◌&&◌, List, false, eqb, length, bit_xor, ap, ◌∙◌, xor, same_from, primal, Split, signature, chain_signature, signature_of, Tree, IsTree, IsShortest, on_path, loop, signature_of-same, signature_of-linear, Mesh, edge_count, ends, IsSurface, edge_length, parity, cells_of, class_of, loop_walk, edge_signature, eqb_comm, odd_below-same, odd_below-one, path_root, path_step}
 use Rattle.surf_surfaces.proofs.classes.ClassLaws.{runs_loop}
 use Rattle.surf_signatures.specs.Ways.{way_class}
 

@@ -1,16 +1,10 @@
 -- What a flat table of signatures holds.
-use Rattle.surf_surfaces.proofs.Common.{ℕ, ◌<◌, ◌≤◌, ◌≡◌, ◌≢◌, ◌+◌, ◌*◌, ◌/◌, ◌%◌, ◌^◌, refl, sym, ap, ◌∙◌, subst, arith, inl, inr, List, [], length, map, take, drop, replicate, get_or, min, eqb, false, range_with_len, cases_lt, has, number, xor, dual, Split, IsSplit, signature, Graph, Tree, IsTree, on_path, Mesh, edge_count, IsSurface, cells_of, edge_signature}
-use Rattle.std.specs.Int.{bit_at}
-use Rattle.std.proofs.lemmas.Nat.Bits.{bit_at-zero}
+use Rattle.surf_surfaces.proofs.Common.{ℕ, ◌<◌, ◌≤◌, ◌≡◌, ◌≢◌, ◌+◌, ◌*◌, ◌/◌, ◌%◌, ◌^◌, refl, sym, ap, ◌∙◌, subst, arith, inl, inr, List, [], length, map, take, drop, replicate, get_or, min, eqb, false, range_with_len, cases_lt, has, number, xor, dual, Split, IsSplit, signature, Graph, Tree, IsTree, on_path, Mesh, edge_count, IsSurface, cells_of, edge_signature, bit_at, bit_at-zero, get_or-take, get_or-drop, get_or_past, get_or-replicate, length-replicate, length-take, take_all, same_number_lists, below_law, same_from_has, path_root, path_step, down_tree}
 use Rattle.std.proofs.Math.Nat.{mul-le-mul_right}
-use Rattle.std.proofs.lemmas.List.{get_or-take, get_or-drop, get_or_past, get_or-replicate, length-replicate, length-take, take_all}
-use Rattle.std.proofs.lemmas.Grind.{same_number_lists}
 use Rattle.std.proofs.lemmas.List.FromFn.{get_or-map-range_with_len, length-map-range_with_len, fill_by_all}
-use Rattle.surf_z2.proofs.Below.{below_law, same_from_has}
 use Rattle.surf_z2.proofs.Words.{bit_number, number_zero}
 use Rattle.surf_bits.proofs.Rows.{front_small, take_most}
 use Rattle.surf_graphs.proofs.CellLaws.{signature_is}
-use Rattle.surf_graphs.proofs.Trees.{path_root, path_step, down_tree}
 use Rattle.surf_surfaces.proofs.meshes.CellLaws.{surfaces_are_cells}
 use Rattle.surf_signatures.specs.Tables.{Signed, words_for, row_of, sets_in, face_tree, HangsBy}
 use Rattle.surf_signatures.specs.Signs.{sign_bit, has_left}

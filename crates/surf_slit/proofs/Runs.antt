@@ -1,7 +1,6 @@
 -- Runs of places around a vertex between cuts.
 use Rattle.std.proofs.Common.{◌≡◌, ◌≢◌, ℕ, zero, suc, ◌+◌, ◌-◌, ◌<◌, ◌≤◌, ◌↔◌, max, inl, inr, sym, refl, subst, ap, ◌∙◌, cond, eqb, leb as nat_leb, Bool, true, false, arith, ne_eqb}
-use Rattle.std.proofs.lemmas.Bool.{cases_eq, cases_lt, cases_Bool, eq-eqb, both_ways, lt-ltb, le-ltb, le-leb, lt-leb, cases_order}
-use Rattle.surf_surfaces.proofs.Common.{count_below, Joined, here, over, after, ◌⊎◌}
+use Rattle.surf_surfaces.proofs.Common.{cases_eq, cases_lt, cases_Bool, eq-eqb, both_ways, lt-ltb, le-ltb, le-leb, lt-leb, cases_order, count_below, Joined, here, over, after, ◌⊎◌}
 use Rattle.surf_z2.proofs.Counting.{passes, fails, no_fall_to, passed_onto}
 use Rattle.surf_surfaces.proofs.meshes.JoinedLaws.{joined_trans, joined_sym}
 use Rattle.surf_slit.specs.Link.{run_of}

@@ -1,6 +1,5 @@
 -- The roots of faces tell which are joined by shared edges.
-use Rattle.surf_surfaces.proofs.Common.{◌≡◌, ◌≢◌, ℕ, zero, suc, ◌+◌, ◌<◌, ◌≤◌, cond, eqb, min, max, List, [], ◌∷◌, ◌++◌, length, get_or, refl, sym, ap, subst, ◌∙◌, arith, inl, inr, range_with_len, cases_eq, cases_lt, eq-eqb, ne_eqb, length-map, get_or_push, get_or_append_left, length_push, length-range_with_len, get_or-range_with_len, Joined, here, over, Mesh, IsMesh, edges, face_count, face_at, faces_with, Share, IsConnected, side_count, pair_at, owners, sides_with, first_side, place_of}
-use Rattle.std.proofs.lemmas.List.Sums.{sum_by_push}
+use Rattle.surf_surfaces.proofs.Common.{◌≡◌, ◌≢◌, ℕ, zero, suc, ◌+◌, ◌<◌, ◌≤◌, cond, eqb, min, max, List, [], ◌∷◌, ◌++◌, length, get_or, refl, sym, ap, subst, ◌∙◌, arith, inl, inr, range_with_len, cases_eq, cases_lt, eq-eqb, ne_eqb, length-map, get_or_push, get_or_append_left, length_push, length-range_with_len, get_or-range_with_len, Joined, here, over, Mesh, IsMesh, edges, face_count, face_at, faces_with, Share, IsConnected, side_count, pair_at, owners, sides_with, first_side, place_of, sum_by_push}
 use Rattle.surf_soup.specs.Forest.{HasRoots, merged}
 use Rattle.surf_soup.specs.Apart.{AreAcross, AreFaceRoots, IsLeastApart}
 use Rattle.surf_surfaces.proofs.meshes.JoinedLaws.{joined_trans, joined_sym, joined_closed}

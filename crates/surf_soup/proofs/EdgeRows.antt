@@ -1,9 +1,8 @@
 -- The rows of sides, one for each edge, with one side more.
-use Rattle.surf_surfaces.proofs.Common.{◌≡◌, ℕ, suc, ◌+◌, ◌-◌, ◌<◌, Bool, true, false, List, [], ◌∷◌, ◌++◌, length, get_or, map, take, refl, sym, ap, ◌∙◌, arith, inl, inr, AllPairs, cases_eq, append-nil, take_more, get_or-take, length-take-le, length-map, get_or-map, get_or_append_left, same_lists, pair_eq, pair_lt}
+use Rattle.surf_surfaces.proofs.Common.{◌≡◌, ℕ, suc, ◌+◌, ◌-◌, ◌<◌, Bool, true, false, List, [], ◌∷◌, ◌++◌, length, get_or, map, take, refl, sym, ap, ◌∙◌, arith, inl, inr, AllPairs, cases_eq, append-nil, take_more, get_or-take, length-take-le, length-map, get_or-map, get_or_append_left, same_lists, pair_eq, pair_lt, sum_by-set, sum_by_push}
 use Rattle.std.specs.List.{filter, sum_by}
 use Rattle.std.proofs.lemmas.List.{length-set, get_or-set_same, get_or-set_other, length_push, get_or_push}
 use Rattle.std.proofs.lemmas.List.Elements.{filter-append}
-use Rattle.std.proofs.lemmas.List.Sums.{sum_by-set, sum_by_push}
 use Rattle.surf_surfaces.proofs.meshes.PairLaws.{pair_eq-same, pair_eq-other, pair_lt-irreflexive}
 use Rattle.surf_rows.specs.Rows.{with_last_longer}
 use Rattle.surf_soup.specs.Order.{running, AreRowsOf}

@@ -1,13 +1,11 @@
 -- The listed pairs are the edges, and the groups by edge are the sides of the edges.
-use Rattle.surf_surfaces.proofs.Common.{◌≡◌, ℕ, zero, suc, ◌+◌, ◌<◌, ◌≤◌, Bool, true, false, eqb, List, [], ◌∷◌, length, get_or, map, take, refl, sym, ap, ◌∙◌, arith, true≢false, eqb-true, length-map, get_or-map, same_lists, take_all, All-from_recursion, sum_by-cons, Mesh, IsMesh, sides, pair_of, pair_eq, among, edges, edge_count, ends}
+use Rattle.surf_surfaces.proofs.Common.{◌≡◌, ℕ, zero, suc, ◌+◌, ◌<◌, ◌≤◌, Bool, true, false, eqb, List, [], ◌∷◌, length, get_or, map, take, refl, sym, ap, ◌∙◌, arith, true≢false, eqb-true, length-map, get_or-map, same_lists, take_all, All-from_recursion, sum_by-cons, Mesh, IsMesh, sides, pair_of, pair_eq, among, edges, edge_count, ends, length-flat_map, side_count, side_pairs, pair_at, sides_with}
 use Rattle.std.specs.List.{AllByRecursion, filter, flat_map, range_with_len, sum_by}
-use Rattle.std.proofs.lemmas.List.Concat.{length-flat_map}
 use Rattle.surf_surfaces.proofs.meshes.PairLaws.{pair_eq-true, pair_eq-self, pair_eq-same, pair_same}
 use Rattle.surf_surfaces.proofs.meshes.EdgeLaws.{among-sorted, list_any_at, list_any_from, rising_unique, rising_from_AllPairs}
 use Rattle.surf_surfaces.proofs.meshes.EdgeLaws.{edges-rise}
 use Rattle.surf_surfaces.proofs.meshes.SurfaceLaws.{edge_below}
 use Rattle.surf_surfaces.proofs.meshes.CountLaws.{length-sides}
-use Rattle.surf_surfaces.specs.SideNumber.{side_count, side_pairs, pair_at, sides_with}
 use Rattle.surf_soup.specs.Order.{by_key, side_order, pair_in, running, AreRowsOf, IsNumbered}
 use Rattle.surf_soup.proofs.Order.{by_key-keeps, side_order-below, side_order-has}
 

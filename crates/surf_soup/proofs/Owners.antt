@@ -1,13 +1,9 @@
 -- The faces of a pair are those of its sides.
-use Rattle.surf_surfaces.proofs.Common.{◌≡◌, ℕ, suc, ◌+◌, ◌<◌, ◌≤◌, false, cond, List, [], ◌∷◌, ◌++◌, length, get_or, map, replicate, refl, sym, ap, ◌∙◌, arith, inl, inr, All, map-append, length-map, length-append, length-replicate, sum_by-cons, Mesh, IsMesh, IsFace, sides, pair_of, pair_eq, among}
+use Rattle.surf_surfaces.proofs.Common.{◌≡◌, ℕ, suc, ◌+◌, ◌<◌, ◌≤◌, false, cond, List, [], ◌∷◌, ◌++◌, length, get_or, map, replicate, refl, sym, ap, ◌∙◌, arith, inl, inr, All, map-append, length-map, length-append, length-replicate, sum_by-cons, Mesh, IsMesh, IsFace, sides, pair_of, pair_eq, among, cases_Bool, or_parts, All-head, All-tail, has_side, places_from, faces_with, side_pairs, pair_at, owners, sides_with}
 use Rattle.std.specs.List.{filter, flat_map, range_with_len, sum_by}
-use Rattle.std.proofs.lemmas.Bool.{cases_Bool, or_parts}
-use Rattle.std.proofs.lemmas.List.Elements.{All-head, All-tail}
-use Rattle.surf_surfaces.specs.Surface.{has_side, places_from, faces_with}
 use Rattle.surf_surfaces.proofs.meshes.PairLaws.{pair_eq-true}
 use Rattle.surf_surfaces.proofs.meshes.FaceLaws.{Once, face_once, has_side-among}
 use Rattle.surf_surfaces.proofs.meshes.CountLaws.{length-sides}
-use Rattle.surf_surfaces.specs.SideNumber.{side_pairs, pair_at, owners, sides_with}
 use Rattle.surf_soup.proofs.EdgeTables.{length-side_pairs}
 
 -- the numbers that stand where the pair stands

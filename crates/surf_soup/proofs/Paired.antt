@@ -1,10 +1,7 @@
 -- Rows of sides, read as the faces of edges.
-use Rattle.surf_surfaces.proofs.Common.{◌≡◌, ◌≢◌, ℕ, ◌+◌, ◌<◌, ◌≤◌, true, List, [], ◌∷◌, length, get_or, take, map, refl, sym, ap, ◌∙◌, arith, inl, inr, list_any, range_with_len, true≢false, cases_eq, cases_lt, All-from_recursion, length-range_with_len, get_or-range_with_len, Mesh, IsMesh, pair_eq, edges, edge_count, ends, faces_with}
-use Rattle.std.proofs.lemmas.List.{length-map, get_or-map, nil_from_length}
-use Rattle.std.proofs.lemmas.List.Sums.{length-filter, count_by-le-length}
+use Rattle.surf_surfaces.proofs.Common.{◌≡◌, ◌≢◌, ℕ, ◌+◌, ◌<◌, ◌≤◌, true, List, [], ◌∷◌, length, get_or, take, map, refl, sym, ap, ◌∙◌, arith, inl, inr, list_any, range_with_len, true≢false, cases_eq, cases_lt, All-from_recursion, length-range_with_len, get_or-range_with_len, Mesh, IsMesh, pair_eq, edges, edge_count, ends, faces_with, length-map, get_or-map, nil_from_length, length-filter, count_by-le-length, side_count, side_pairs, pair_at, owners, sides_with}
 use Rattle.surf_surfaces.proofs.meshes.PairLaws.{pair_eq-self}
 use Rattle.surf_surfaces.proofs.meshes.EdgeLaws.{among-sorted, list_any_at, list_any_from}
-use Rattle.surf_surfaces.specs.SideNumber.{side_count, side_pairs, pair_at, owners, sides_with}
 use Rattle.surf_soup.specs.Pairs.{NoneWithin, IsFirstWithin, degree, HasTwoFaces, IsLeastBorder, IsLeastCrowd}
 use Rattle.surf_soup.proofs.Order.{all_filter, range_below, any_of_filter}
 use Rattle.surf_soup.proofs.EdgeTables.{length-side_pairs}

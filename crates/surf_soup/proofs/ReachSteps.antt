@@ -1,7 +1,6 @@
 -- Steps of a walk over rows.
-use Rattle.surf_surfaces.proofs.Common.{◌≡◌, ℕ, zero, suc, ◌+◌, ◌<◌, ◌≤◌, Bool, true, false, not, cond, List, [], ◌∷◌, ◌++◌, length, get_or, set, replicate, subst, refl, sym, ap, ◌∙◌, arith, inl, inr, true≢false, cases_eq, cases_lt, length_push, get_or_push, get_or_append_left, get_or_past, Joined, here, over}
+use Rattle.surf_surfaces.proofs.Common.{◌≡◌, ℕ, zero, suc, ◌+◌, ◌<◌, ◌≤◌, Bool, true, false, not, cond, List, [], ◌∷◌, ◌++◌, length, get_or, set, replicate, subst, refl, sym, ap, ◌∙◌, arith, inl, inr, true≢false, cases_eq, cases_lt, length_push, get_or_push, get_or_append_left, get_or_past, Joined, here, over, sum_by-set, sum_by-cons}
 use Rattle.std.proofs.lemmas.List.{length-replicate, get_or-replicate, length-set, get_or-set_same, get_or-set_other}
-use Rattle.std.proofs.lemmas.List.Sums.{sum_by-set, sum_by-cons}
 use Rattle.surf_surfaces.proofs.meshes.JoinedLaws.{joined_trans, joined_closed}
 use Rattle.surf_soup.specs.Reach.{Leads, marked, unmarked, Visits, IsReach}
 

@@ -1,7 +1,6 @@
 -- Steps round a vertex.
-use Rattle.surf_surfaces.proofs.Common.{◌≡◌, ◌≢◌, ℕ, zero, suc, ◌+◌, ◌-◌, ◌<◌, ◌⊎◌, Bool, true, false, not, cond, eqb, List, [], ◌∷◌, ◌++◌, length, get_or, set, refl, sym, ap, ◌∙◌, arith, inl, inr, true≢false, cases_eq, eq-eqb, ne_eqb, get_or_append_left}
+use Rattle.surf_surfaces.proofs.Common.{◌≡◌, ◌≢◌, ℕ, zero, suc, ◌+◌, ◌-◌, ◌<◌, ◌⊎◌, Bool, true, false, not, cond, eqb, List, [], ◌∷◌, ◌++◌, length, get_or, set, refl, sym, ap, ◌∙◌, arith, inl, inr, true≢false, cases_eq, eq-eqb, ne_eqb, get_or_append_left, sum_by-set}
 use Rattle.std.proofs.lemmas.List.{length-set, get_or-set_same, get_or-set_other, length_push, get_or_push}
-use Rattle.std.proofs.lemmas.List.Sums.{sum_by-set}
 use Rattle.surf_soup.specs.Reach.{marked, unmarked}
 use Rattle.surf_soup.specs.Ring.{dart_corner, flip_of, cross_of, turn_of, turns, IsRound, IsTrail}
 

@@ -1,12 +1,8 @@
 -- Sides by their numbers, and by their faces and places.
-use Rattle.surf_surfaces.proofs.Common.{◌≡◌, ◌≢◌, ℕ, ◌+◌, ◌-◌, ◌<◌, ◌≤◌, ◌⊎◌, true, List, [], length, get_or, take, refl, sym, ap, ◌∙◌, arith, inl, inr, flat_map, sum_by, cases_order, Mesh, pair_of, sides, face_count, face_at, has_side, Share}
+use Rattle.surf_surfaces.proofs.Common.{◌≡◌, ◌≢◌, ℕ, ◌+◌, ◌-◌, ◌<◌, ◌≤◌, ◌⊎◌, true, List, [], length, get_or, take, refl, sym, ap, ◌∙◌, arith, inl, inr, flat_map, sum_by, cases_order, Mesh, pair_of, sides, face_count, face_at, has_side, Share, length-flat_map, get_or-flat_map, sum_by-take-le, side_pair, side_count, pair_at, sides_with, first_side, IsFaceOf, IsMate}
 use Rattle.std.proofs.lemmas.List.{get_or-map, take-take, length-map}
-use Rattle.std.proofs.lemmas.List.Concat.{length-flat_map, get_or-flat_map}
-use Rattle.std.proofs.lemmas.List.Sums.{sum_by-take-le}
-use Rattle.surf_surfaces.specs.Side.{side_pair}
 use Rattle.surf_surfaces.proofs.meshes.CountLaws.{length-sides}
 use Rattle.surf_surfaces.proofs.meshes.SideLaws.{sides_are_by_place, sides_are_placed}
-use Rattle.surf_surfaces.specs.SideNumber.{side_count, pair_at, sides_with, first_side, IsFaceOf, IsMate}
 use Rattle.surf_soup.specs.Half.{AreAllMates}
 use Rattle.surf_soup.proofs.EdgeTables.{sizes, length-side_pairs}
 use Rattle.surf_soup.proofs.HalfLaws.{spans}

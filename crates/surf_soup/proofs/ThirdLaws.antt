@@ -1,7 +1,6 @@
 -- The faces of sides where each face has three.
-use Rattle.surf_surfaces.proofs.Common.{◌≡◌, ℕ, zero, suc, ◌+◌, ◌-◌, ◌*◌, ◌/◌, ◌<◌, ◌≤◌, List, [], ◌∷◌, length, get_or, take, refl, sym, ap, ◌∙◌, arith, same_lists, length-map-range_with_len, get_or-map-range_with_len, sum_by-cons, div-mul-add, Mesh, IsMesh, IsFace, face_count, side_count, owners}
+use Rattle.surf_surfaces.proofs.Common.{◌≡◌, ℕ, zero, suc, ◌+◌, ◌-◌, ◌*◌, ◌/◌, ◌<◌, ◌≤◌, List, [], ◌∷◌, length, get_or, take, refl, sym, ap, ◌∙◌, arith, same_lists, length-map-range_with_len, get_or-map-range_with_len, sum_by-cons, div-mul-add, Mesh, IsMesh, IsFace, face_count, side_count, owners, All-head, All-tail}
 use Rattle.std.specs.List.{All, sum_by}
-use Rattle.std.proofs.lemmas.List.Elements.{All-head, All-tail}
 use Rattle.surf_soup.specs.FaceTables.{thirds}
 use Rattle.surf_soup.proofs.HalfLaws.{face_of_side, spans}
 use Rattle.surf_soup.proofs.Owners.{length-owners}

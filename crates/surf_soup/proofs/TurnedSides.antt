@@ -1,7 +1,6 @@
 -- The sides before and after each side of a face, and darts turned by tables.
-use Rattle.surf_surfaces.proofs.Common.{◌≡◌, ◌≢◌, ℕ, ◌+◌, ◌-◌, ◌<◌, ◌≤◌, Bool, not, cond, eqb, true, false, List, length, get_or, inl, inr, refl, sym, ap, ◌∙◌, arith, sum_by, true≢false, lt-ltb, le-ltb, ne_eqb, eq-eqb, cases_eq, get_or_read, length-map-range_with_len, get_or-map-range_with_len, Mesh, after, before, face_count, face_at, side_count, owners, first_side, IsFaceOf}
+use Rattle.surf_surfaces.proofs.Common.{◌≡◌, ◌≢◌, ℕ, ◌+◌, ◌-◌, ◌<◌, ◌≤◌, Bool, not, cond, eqb, true, false, List, length, get_or, inl, inr, refl, sym, ap, ◌∙◌, arith, sum_by, true≢false, lt-ltb, le-ltb, ne_eqb, eq-eqb, cases_eq, get_or_read, length-map-range_with_len, get_or-map-range_with_len, Mesh, after, before, face_count, face_at, side_count, owners, first_side, IsFaceOf, take-length}
 use Rattle.std.proofs.Math.Bool.{beq}
-use Rattle.std.proofs.Math.Seq.{take-length}
 use Rattle.surf_soup.specs.Ring.{turned, nexts, befores, flip_of, turn_of, AreDartTables, AreTurned}
 use Rattle.surf_soup.proofs.HalfLaws.{face_of_side, spans}
 use Rattle.surf_soup.proofs.SideNumbers.{one_face, first_mono}

@@ -1,7 +1,5 @@
 -- A vertex has a side exactly where it is in a face.
-use Rattle.surf_surfaces.proofs.Common.{◌≡◌, ℕ, ◌+◌, ◌-◌, ◌<◌, ◌≤◌, true, eqb, List, [], length, get_or, take, map, refl, sym, ap, ◌∙◌, arith, inl, inr, All, list_any, range_with_len, true≢false, eq-eqb, eqb-true, cases_eq, All-from_recursion, length-range_with_len, get_or-range_with_len, length-map-range_with_len, get_or-map-range_with_len, Mesh, IsMesh, face_at, face_count, HasCorner, side_count, owners, first_side}
-use Rattle.std.proofs.lemmas.List.{get_or_default, get_or_read, nil_from_length}
-use Rattle.std.proofs.lemmas.List.Concat.{length-flat_map, get_or-flat_map}
+use Rattle.surf_surfaces.proofs.Common.{◌≡◌, ℕ, ◌+◌, ◌-◌, ◌<◌, ◌≤◌, true, eqb, List, [], length, get_or, take, map, refl, sym, ap, ◌∙◌, arith, inl, inr, All, list_any, range_with_len, true≢false, eq-eqb, eqb-true, cases_eq, All-from_recursion, length-range_with_len, get_or-range_with_len, length-map-range_with_len, get_or-map-range_with_len, Mesh, IsMesh, face_at, face_count, HasCorner, side_count, owners, first_side, get_or_default, get_or_read, nil_from_length, length-flat_map, get_or-flat_map}
 use Rattle.surf_rows.specs.Groups.{has_key}
 use Rattle.surf_soup.specs.Pairs.{NoneWithin, IsFirstWithin}
 use Rattle.surf_soup.specs.Vertices.{all_corners, sides_at, AllMet, IsLeastIsolated}

@@ -1,8 +1,6 @@
 -- Texts of many parts, put on a page one after another.
 use Rattle.std.proofs.Common.{◌≡◌, ℕ, zero, suc, ◌+◌, ◌<◌, ◌≤◌, List, [], ◌∷◌, ◌++◌, length, take, drop, get_or, refl, sym, ap, ◌∙◌, arith, length-append, append_assoc, append-nil, subst, Result, Ok, Err}
-use Rattle.surf_surfaces.proofs.Common.{flat_map, range_with_len, length-range_with_len, get_or-range_with_len}
-use Rattle.std.proofs.lemmas.Grind.{flat_map-append}
-use Rattle.std.proofs.lemmas.List.{take_more, drop_more, take-append-drop}
+use Rattle.surf_surfaces.proofs.Common.{flat_map, range_with_len, length-range_with_len, get_or-range_with_len, flat_map-append, take_more, drop_more, take-append-drop}
 use Rattle.surf_text.specs.Pages.{PageState, grown, Puts, Stops}
 use Rattle.surf_text.specs.declared.page.PageFault.{PageFault}
 use Rattle.surf_text.specs.declared.page.PageFault.TheVariants.{Full, Memory}

@@ -1,8 +1,5 @@
 -- Chains of tori are surfaces.
-use Rattle.surf_surfaces.proofs.Common.{◌≡◌, ◌≢◌, ℕ, zero, suc, ◌+◌, ◌-◌, ◌*◌, ◌<◌, ◌≤◌, ◌⊎◌, length, refl, sym, ap, ◌∙◌, arith, inl, inr, subst, Contains, le-ltb, length-map, after, before, face_count, face_at, HasCorner, IsSurface}
-use Rattle.std.specs.Prelude.{pos, ◌-ℤ◌}
-use Rattle.std.proofs.lemmas.Nat.{same_from_place, mul-le}
-use Rattle.surf_surfaces.specs.Mesh.{Mesh, characteristic}
+use Rattle.surf_surfaces.proofs.Common.{◌≡◌, ◌≢◌, ℕ, zero, suc, ◌+◌, ◌-◌, ◌*◌, ◌<◌, ◌≤◌, ◌⊎◌, length, refl, sym, ap, ◌∙◌, arith, inl, inr, subst, Contains, le-ltb, length-map, after, before, face_count, face_at, HasCorner, IsSurface, pos, ◌-ℤ◌, same_from_place, mul-le, Mesh, characteristic}
 use Rattle.surf_tori.specs.Torus.{torus}
 use Rattle.surf_tori.specs.ConnectedSum.{connected_sum, CanLose}
 use Rattle.surf_tori.specs.Chain.{joint, last_joint, longer_chain, chain, ChainsAreSurfaces, ChainsHaveCharacteristic, ChainCounts}

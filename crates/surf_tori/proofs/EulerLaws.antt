@@ -1,8 +1,7 @@
 -- The characteristic of a surface of triangles, by its vertices and faces alone.
-use Rattle.surf_surfaces.proofs.Common.{◌≡◌, ℕ, ◌+◌, ◌*◌, ◌<◌, List, [], ◌∷◌, length, refl, sym, ap, ◌∙◌, arith, sum_by, AllByRecursion, All-from_get_or, recursion_from_All, sum_by-cons, face_count, edge_count, face_at, IsSurface}
+use Rattle.surf_surfaces.proofs.Common.{◌≡◌, ℕ, ◌+◌, ◌*◌, ◌<◌, List, [], ◌∷◌, length, refl, sym, ap, ◌∙◌, arith, sum_by, AllByRecursion, All-from_get_or, recursion_from_All, sum_by-cons, face_count, edge_count, face_at, IsSurface, Mesh, characteristic}
 use Rattle.std.specs.Prelude.{ℤ, pos, ◌+ℤ◌, ◌-ℤ◌}
 use Rattle.std.proofs.Math.IntN.{neg_ℤ, +ℤ_assoc, +ℤ_comm, pos-+ℤ-pos, +ℤ-neg_ℤ_cancel, -ℤ-+ℤ_cancel}
-use Rattle.surf_surfaces.specs.Mesh.{Mesh, characteristic}
 use Rattle.surf_surfaces.proofs.meshes.CountLaws.{sizes_twice}
 use Rattle.surf_surfaces.proofs.meshes.EulerSums.{less_two}
 

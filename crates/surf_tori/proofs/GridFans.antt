@@ -1,6 +1,5 @@
 -- The faces at each place of a grid form one fan, also without the first face of a cell, and the grid is a surface.
-use Rattle.surf_surfaces.proofs.Common.{◌≡◌, ◌≢◌, ℕ, zero, suc, ◌<◌, List, [], ◌∷◌, length, refl, sym, ap, ◌∙◌, arith, inl, inr, subst, Contains, cases_eq, Joined, here, over, Mesh, face_count, face_at, HasCorner, Share, ShareAt, IsConnected, IsSurface}
-use Rattle.std.proofs.lemmas.Nat.{same_from_place}
+use Rattle.surf_surfaces.proofs.Common.{◌≡◌, ◌≢◌, ℕ, zero, suc, ◌<◌, List, [], ◌∷◌, length, refl, sym, ap, ◌∙◌, arith, inl, inr, subst, Contains, cases_eq, Joined, here, over, Mesh, face_count, face_at, HasCorner, Share, ShareAt, IsConnected, IsSurface, same_from_place}
 use Rattle.surf_surfaces.proofs.meshes.JoinedLaws.{joined_trans, joined_sym, joined_lift}
 use Rattle.surf_tori.specs.Coherent.{Runs}
 use Rattle.surf_tori.proofs.CoherentLaws.{coherent_edges_have_two_faces}

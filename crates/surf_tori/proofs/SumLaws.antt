@@ -1,8 +1,5 @@
 -- Connected sums are surfaces.
-use Rattle.surf_surfaces.proofs.Common.{◌≡◌, ◌≢◌, ℕ, suc, ◌+◌, ◌-◌, ◌<◌, ◌≤◌, cond, ltb, List, [], ◌∷◌, ◌⊎◌, length, get_or, map, take, drop, refl, sym, ap, ◌∙◌, arith, inl, inr, subst, Contains, cases_eq, cases_lt, lt-ltb, le-ltb, sum_by, take-append-drop, here, over, Mesh, IsFace, pair, face_count, face_at, HasCorner, HasEdge}
-use Rattle.std.proofs.lemmas.List.{length-append, length-map, length-take-le, length-drop, get_or_append_left, get_or-append_right, get_or-take, get_or-drop, get_or-map}
-use Rattle.std.proofs.Math.Seq.{drop-cons}
-use Rattle.std.proofs.lemmas.List.Sums.{sum_by-cons, sum_by-append}
+use Rattle.surf_surfaces.proofs.Common.{◌≡◌, ◌≢◌, ℕ, suc, ◌+◌, ◌-◌, ◌<◌, ◌≤◌, cond, ltb, List, [], ◌∷◌, ◌⊎◌, length, get_or, map, take, drop, refl, sym, ap, ◌∙◌, arith, inl, inr, subst, Contains, cases_eq, cases_lt, lt-ltb, le-ltb, sum_by, take-append-drop, here, over, Mesh, IsFace, pair, face_count, face_at, HasCorner, HasEdge, length-append, length-map, length-take-le, length-drop, get_or_append_left, get_or-append_right, get_or-take, get_or-drop, get_or-map, drop-cons, sum_by-cons, sum_by-append}
 use Rattle.surf_surfaces.proofs.meshes.CountLaws.{sizes_twice}
 use Rattle.surf_tori.proofs.EulerLaws.{characteristic_of_sum}
 use Rattle.surf_surfaces.proofs.meshes.JoinedLaws.{joined_lift}

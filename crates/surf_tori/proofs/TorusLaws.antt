@@ -1,7 +1,6 @@
 -- The torus of a by b squares is a surface of characteristic 0.
-use Rattle.surf_surfaces.proofs.Common.{◌≡◌, ◌≢◌, ℕ, zero, suc, ◌+◌, ◌*◌, ◌/◌, ◌%◌, ◌<◌, ◌≤◌, List, [], ◌∷◌, ◌++◌, ◌⊎◌, length, get_or, refl, sym, ap, ◌∙◌, arith, inl, inr, subst, flat_map, range_with_len, sum_by, cases_lt, cases_eq, lt-ltb, le-ltb, length-range_with_len, get_or-range_with_len, sum_by-cons, IsFace, after, before, face_count, face_at}
+use Rattle.surf_surfaces.proofs.Common.{◌≡◌, ◌≢◌, ℕ, zero, suc, ◌+◌, ◌*◌, ◌/◌, ◌%◌, ◌<◌, ◌≤◌, List, [], ◌∷◌, ◌++◌, ◌⊎◌, length, get_or, refl, sym, ap, ◌∙◌, arith, inl, inr, subst, flat_map, range_with_len, sum_by, cases_lt, cases_eq, lt-ltb, le-ltb, length-range_with_len, get_or-range_with_len, sum_by-cons, IsFace, after, before, face_count, face_at, div-mul-add, mod-mul-add, div-add-mod', div_below, mod_below}
 use Rattle.std.proofs.Math.Nat.{mod-eq_of_lt, mod_self}
-use Rattle.std.proofs.lemmas.Nat.{div-mul-add, mod-mul-add, div-add-mod', div_below, mod_below}
 use Rattle.surf_surfaces.proofs.meshes.SideLaws.{after-below, before-below, after-before, before-after}
 use Rattle.surf_tori.specs.Torus.{grid_vertex, first_face, second_face, cell_faces, torus, TorusCounts, CellsAreFaces, ToriAreSurfaces, ToriHaveCharacteristicZero}
 use Rattle.surf_tori.proofs.GridLaws.{IsRound, place, low, high, place_in, IsGrid, faces_are_triangles}

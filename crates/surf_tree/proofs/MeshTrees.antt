@@ -1,7 +1,6 @@
 -- What is grown over the edges of a surface is its tree of shortest walks.
 use Rattle.std.proofs.Common.{◌≡◌, ◌≢◌, ℕ, ◌+◌, ◌*◌, ◌^◌, ◌<◌, ◌≤◌, true, List, [], ◌∷◌, refl, sym, ap, ◌∙◌, subst, arith, get_or, Contains, ne_eqb, eq-eqb}
-use Rattle.surf_surfaces.proofs.Common.{joins, IsGraphWalk, graph_walk_length, primal, joins_turned, Mesh, pair, edges, edge_count, ends, IsSurface, edge_length, edge_number, place_of, walk_length, cells_of, IsShortestTree}
-use Rattle.surf_surfaces.specs.Distance.{LeadsFrom, IsDistance}
+use Rattle.surf_surfaces.proofs.Common.{joins, IsGraphWalk, graph_walk_length, primal, joins_turned, Mesh, pair, edges, edge_count, ends, IsSurface, edge_length, edge_number, place_of, walk_length, cells_of, IsShortestTree, LeadsFrom, IsDistance}
 use Rattle.surf_surfaces.proofs.meshes.EdgeLaws.{place_of-among, place_of-ends, among-contains, contains_from_among}
 use Rattle.surf_surfaces.proofs.meshes.CellLaws.{surfaces_are_cells, ends_below, joins_from, joins_is}
 use Rattle.surf_surfaces.proofs.walks.GraphWalkLaws.{walks_are_graph_walks, from_joined}

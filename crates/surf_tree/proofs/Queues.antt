@@ -1,7 +1,6 @@
 -- The list of settled nodes as a queue, where all edges have one length.
-use Rattle.surf_surfaces.proofs.Common.{ℕ, suc, ◌<◌, ◌≤◌, ◌≡◌, ◌≢◌, ◌+◌, ◌*◌, true, refl, sym, ap, ◌∙◌, subst, arith, inl, inr, List, length, set, eqb, get_or-set_same, get_or-set_other, cases_eq, count_below, joins_turned}
+use Rattle.surf_surfaces.proofs.Common.{ℕ, suc, ◌<◌, ◌≤◌, ◌≡◌, ◌≢◌, ◌+◌, ◌*◌, true, refl, sym, ap, ◌∙◌, subst, arith, inl, inr, List, length, set, eqb, get_or-set_same, get_or-set_other, cases_eq, count_below, joins_turned, Graph, IsGraph, IsConnectedGraph, joins}
 use Rattle.std.proofs.Math.ListN.{length-set}
-use Rattle.surf_graphs.specs.Graphs.{Graph, IsGraph, IsConnectedGraph, joins}
 use Rattle.surf_lengths.specs.Lengths.{longest}
 use Rattle.surf_mesh.specs.Links.{link_at, IsRow}
 use Rattle.surf_base.specs.Tables.{at}

@@ -1,9 +1,8 @@
 -- Words on searches as they run: what waits, what is offered, and a tree as it grows.
-use Rattle.surf_surfaces.proofs.Common.{ℕ, ◌≡◌, ◌≢◌, ◌<◌, ◌≤◌, ◌+◌, ◌*◌, ◌⊎◌, true, length, Some, false, List, slice_index, slice_index_or, Graph, joins, IsGraphWalk, graph_walk_length, IsTree, IsShortest, in_tree}
+use Rattle.surf_surfaces.proofs.Common.{ℕ, ◌≡◌, ◌≢◌, ◌<◌, ◌≤◌, ◌+◌, ◌*◌, ◌⊎◌, true, length, Some, false, List, slice_index, slice_index_or, Graph, joins, IsGraphWalk, graph_walk_length, IsTree, IsShortest, in_tree, IsSimple}
 use Rattle.surf_heap.specs.Entries.{Entries, entry_of}
 use Rattle.surf_lengths.specs.Lengths.{longest}
 use Rattle.surf_tree.specs.Searches.{far, HasKey, IsReached, IsLeastTight}
-use Rattle.surf_graphs.specs.Loops.{IsSimple}
 use Rattle.surf_base.specs.Tables.{nobody}
 use Rattle.surf_tree.specs.Tables.{TreeTables, tree_of}
 

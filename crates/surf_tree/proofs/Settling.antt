@@ -1,6 +1,5 @@
 use Rattle.std.proofs.Common.{ℕ, suc, ◌<◌, ◌≤◌, ◌≡◌, ◌≢◌, ◌+◌, ◌*◌, sym, ap, ◌∙◌, arith, inl, inr, set, Option, Some, None, true, false, eqb, eq-eqb, ne_eqb, get_or-set_same, get_or-set_other}
-use Rattle.surf_surfaces.proofs.Common.{cases_eq, false≢true, joins_turned, joins_ends}
-use Rattle.surf_graphs.specs.Graphs.{Graph, IsGraph, IsConnectedGraph, leaves, joins}
+use Rattle.surf_surfaces.proofs.Common.{cases_eq, false≢true, joins_turned, joins_ends, Graph, IsGraph, IsConnectedGraph, leaves, joins}
 use Rattle.surf_heap.specs.Entries.{Entries, entry_of, IsUpTo, IsLeastEntry, IsEmpty}
 use Rattle.surf_lengths.specs.Lengths.{longest}
 use Rattle.surf_tree.specs.Searches.{far, HasKey, IsReached, IsOffered, IsSettled}

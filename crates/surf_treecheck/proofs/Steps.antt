@@ -1,10 +1,7 @@
 -- The steps of a list by their places, and a list one longer.
-use Rattle.surf_surfaces.proofs.Common.{◌≡◌, ℕ, zero, suc, ◌<◌, ◌+◌, List, [], ◌∷◌, length, get_or, map, sum, take, All, Contains, bit_xor, refl, sym, ap, ◌∙◌, subst, arith, map-append, take_all, numbers, sum_of, Mesh, pair, pair_of, edges, steps, steps_from}
-use Rattle.std.proofs.Math.Seq.{take-suc}
+use Rattle.surf_surfaces.proofs.Common.{◌≡◌, ℕ, zero, suc, ◌<◌, ◌+◌, List, [], ◌∷◌, length, get_or, map, sum, take, All, Contains, bit_xor, refl, sym, ap, ◌∙◌, subst, arith, map-append, take_all, numbers, sum_of, Mesh, pair, pair_of, edges, steps, steps_from, take-suc, xor_zero_r, first, last, last_from}
 use Rattle.std.proofs.lemmas.List.Sums.{sum-map, sum_by_more}
-use Rattle.std.specs.Int.Bits.{xor_zero_r}
 use Rattle.surf_z2.proofs.Basics.{span_law}
-use Rattle.surf_surfaces.specs.Walk.{first, last, last_from}
 use Rattle.surf_surfaces.proofs.walks.CycleLaws.{length-steps}
 use Rattle.surf_treecheck.specs.First.{HoldsBelow}
 

@@ -1,6 +1,5 @@
 -- The cycles of a valid certificate are a least basis.
-use Rattle.surf_surfaces.proofs.Common.{◌≡◌, ℕ, zero, suc, ◌<◌, ◌≤◌, true, List, [], ◌∷◌, length, get_or, map, take, replicate, All, Contains, refl, sym, ap, ◌∙◌, subst, arith, AllByRecursion, map-map, length-map, get_or_default, get_or-map, recursion_from_All, All-from_recursion, numbers, chosen, Independent, Spanned, SpannedUpToWeight, primal, Split, IsSplit, Tree, IsTree, IsShortest, loop, signature_of-same, Mesh, pair, pair_of, edges, steps, steps_from, edge_count, IsSurface, IsClosed, edge_length, parity, ArePositive, cells_of, class_of, weighed_walk, AreShortestTrees, loop_walk, walk_signature, joins_turned, joined_below}
-use Rattle.std.proofs.Math.Seq.{take-suc, take-length}
+use Rattle.surf_surfaces.proofs.Common.{◌≡◌, ℕ, zero, suc, ◌<◌, ◌≤◌, true, List, [], ◌∷◌, length, get_or, map, take, replicate, All, Contains, refl, sym, ap, ◌∙◌, subst, arith, AllByRecursion, map-map, length-map, get_or_default, get_or-map, recursion_from_All, All-from_recursion, numbers, chosen, Independent, Spanned, SpannedUpToWeight, primal, Split, IsSplit, Tree, IsTree, IsShortest, loop, signature_of-same, Mesh, pair, pair_of, edges, steps, steps_from, edge_count, IsSurface, IsClosed, edge_length, parity, ArePositive, cells_of, class_of, weighed_walk, AreShortestTrees, loop_walk, walk_signature, joins_turned, joined_below, take-suc, take-length}
 use Rattle.surf_z2.proofs.Basics.{independence_law, span_law}
 use Rattle.surf_graphs.specs.Independence.{signature_of, signed, loop_chain, IsCovering}
 use Rattle.surf_surfaces.specs.Homology.{IsBasis}

@@ -1,9 +1,6 @@
 -- The certificate of the chosen basis is valid.
-use Rattle.surf_surfaces.proofs.Common.{◌≡◌, ℕ, ◌<◌, List, [], ◌∷◌, length, map, get_or, All, sym, ap, ◌∙◌, subst, arith, AllByRecursion, length-map, recursion_from_All, All-from_recursion, greedy, numbers, is_nothing, Independent, SpannedUpToWeight, Decides-is_nothing, primal, Split, IsSplit, loop, signature_of-same, Mesh, edge_count, IsSurface, IsClosed, edge_length, walk_length, ArePositive, cells_of, class_of, loop_walk, walk_signature, Trees, Loop, AreChosen, walks, candidates, IsChosenBasis}
-use Rattle.surf_z2.specs.Least.{weighed}
+use Rattle.surf_surfaces.proofs.Common.{◌≡◌, ℕ, ◌<◌, List, [], ◌∷◌, length, map, get_or, All, sym, ap, ◌∙◌, subst, arith, AllByRecursion, length-map, recursion_from_All, All-from_recursion, greedy, numbers, is_nothing, Independent, SpannedUpToWeight, Decides-is_nothing, primal, Split, IsSplit, loop, signature_of-same, Mesh, edge_count, IsSurface, IsClosed, edge_length, walk_length, ArePositive, cells_of, class_of, loop_walk, walk_signature, Trees, Loop, AreChosen, walks, candidates, IsChosenBasis, weighed, signed, loop_chain, LeastSimpleBasis}
 use Rattle.surf_z2.proofs.Least.{least_law}
-use Rattle.surf_graphs.specs.Independence.{signed, loop_chain}
-use Rattle.surf_surfaces.specs.ChoiceLaws.{LeastSimpleBasis}
 use Rattle.surf_surfaces.proofs.bases.CoveredLaws.{below_closed, below_sized, weighed_loops, loops_covered, candidates_rise}
 use Rattle.surf_surfaces.proofs.bases.BasisLaws.{basis_is_least}
 use Rattle.surf_surfaces.proofs.classes.ClassLaws.{independent_by_classes, some_vertex}

@@ -1,7 +1,6 @@
 -- The totals of the certificates of the choice are those of the loops and of the basis that are chosen.
-use Rattle.surf_surfaces.proofs.Common.{◌≡◌, ℕ, List, map, sum, ap, ◌∙◌, subst, arith, map-map, recursion_from_All, Mesh, walk_length, Loop, walks, loops_at}
+use Rattle.surf_surfaces.proofs.Common.{◌≡◌, ℕ, List, map, sum, ap, ◌∙◌, subst, arith, map-map, recursion_from_All, Mesh, walk_length, Loop, walks, loops_at, total, IsLeastLoopSystem}
 use Rattle.std.specs.List.{All}
-use Rattle.surf_surfaces.specs.Homology.{total, IsLeastLoopSystem}
 use Rattle.surf_surfaces.proofs.bases.BasisLaws.{basis_is_least}
 use Rattle.surf_surfaces.proofs.classes.LeastLaws.{map-same}
 use Rattle.surf_surfaces.proofs.bases.LoopsAtLaws.{loops_are_least}

@@ -1,7 +1,5 @@
 -- The loops of a valid certificate are a least loop system.
-use Rattle.surf_surfaces.proofs.Common.{◌≡◌, ℕ, ◌+◌, List, [], ◌∷◌, map, sum, Contains, refl, sym, ap, ◌∙◌, subst, get_or, AllByRecursion, map-map, recursion_from_All, sum_by-cons, Tree, IsTree, IsShortest, Mesh, pair_of, edges, IsSurface, edge_length, edge_number, walk_length, ArePositive, cells_of, loop_walk}
-use Rattle.surf_graphs.specs.Cells.{primal, dual, IsHeaviest}
-use Rattle.surf_surfaces.specs.Homology.{total, IsLeastLoopSystem}
+use Rattle.surf_surfaces.proofs.Common.{◌≡◌, ℕ, ◌+◌, List, [], ◌∷◌, map, sum, Contains, refl, sym, ap, ◌∙◌, subst, get_or, AllByRecursion, map-map, recursion_from_All, sum_by-cons, Tree, IsTree, IsShortest, Mesh, pair_of, edges, IsSurface, edge_length, edge_number, walk_length, ArePositive, cells_of, loop_walk, primal, dual, IsHeaviest, total, IsLeastLoopSystem}
 use Rattle.surf_surfaces.specs.Cotree.{left_edges, split_of}
 use Rattle.surf_surfaces.proofs.meshes.EdgeLaws.{place_of-among, among-contains}
 use Rattle.surf_surfaces.proofs.classes.ClassLaws.{runs_loop}

@@ -1,7 +1,6 @@
 -- How many numbers below a bound pass a test: one further, and which pass.
-use Rattle.std.proofs.Common.{◌≡◌, ℕ, zero, suc, ◌+◌, ◌-◌, ◌<◌, ◌≤◌, inl, inr, ap, ◌∙◌, cond, Bool, true, false, not, ◌&&◌, eqb, arith, ne_eqb}
+use Rattle.surf_z2.proofs.Common.{◌≡◌, ℕ, zero, suc, ◌+◌, ◌-◌, ◌<◌, ◌≤◌, inl, inr, ap, ◌∙◌, cond, Bool, true, false, not, ◌&&◌, eqb, arith, ne_eqb, count_below}
 use Rattle.std.proofs.lemmas.Bool.{cases_eq, cases_lt, cases_Bool, cond-true, cond-false, and_from}
-use Rattle.surf_z2.specs.Parity.{count_below}
 use Rattle.surf_z2.proofs.Sums.{count_below-same, count_below-without}
 use Rattle.surf_z2.proofs.ParityLaws.{eqb_comm}
 

@@ -1,11 +1,7 @@
 -- Spans and choices of those members of a list that pass a test.
-use Rattle.std.proofs.Common.{◌≡◌, ℕ, zero, suc, ◌+◌, ◌<◌, Bool, true, false, cond, List, [], ◌∷◌, ◌++◌, length, map, filter, take, get_or, Contains, Decides, refl, sym, ap, ◌∙◌, subst, arith, ◌⊎◌, inl, inr}
+use Rattle.surf_z2.proofs.Common.{◌≡◌, ℕ, zero, suc, ◌+◌, ◌<◌, Bool, true, false, cond, List, [], ◌∷◌, ◌++◌, length, map, filter, take, get_or, Contains, Decides, refl, sym, ap, ◌∙◌, subst, arith, ◌⊎◌, inl, inr, cases_Bool, false≢true, Space, merge_from, merge, spans, greedy_after}
 use Rattle.std.specs.List.{AllByRecursion, range_with_len}
-use Rattle.std.proofs.lemmas.Bool.{cases_Bool, false≢true}
 use Rattle.std.proofs.lemmas.List.{map-id}
-use Rattle.surf_z2.specs.Space.{Space}
-use Rattle.surf_z2.specs.Order.{merge_from, merge}
-use Rattle.surf_z2.specs.Greedy.{spans, greedy_after}
 use Rattle.surf_z2.proofs.Span.{InSpan, AllInSpan}
 use Rattle.surf_z2.proofs.Linear.{passing_in}
 use Rattle.surf_z2.proofs.Merge.{Sorted, all_merged, merge_head}

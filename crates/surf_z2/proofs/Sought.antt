@@ -1,6 +1,5 @@
 -- The least number with a property that can be decided.
-use Rattle.std.proofs.Common.{ℕ, zero, suc, ◌<◌, ◌≤◌, ◌⊎◌, subst, arith, inl, inr}
-use Rattle.std.proofs.lemmas.Bool.{cases_eq, cases_lt}
+use Rattle.surf_z2.proofs.Common.{ℕ, zero, suc, ◌<◌, ◌≤◌, ◌⊎◌, subst, arith, inl, inr, cases_eq, cases_lt}
 
 -- the least number below n that has the property
 pub record LeastSuch (n : ℕ) (P : ℕ → Type 0) : Type 0 where

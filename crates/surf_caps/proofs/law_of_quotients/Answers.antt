@@ -1,6 +1,5 @@
-use Rattle.surf_surfaces.proofs.Common.{ℕ, Weighed, numbers, is_nothing}
+use Rattle.surf_surfaces.proofs.Common.{ℕ, Weighed, numbers, is_nothing, Decides-is_nothing, has-xor}
 use Rattle.surf_z2.specs.Sieve.{Row, has}
-use Rattle.surf_z2.proofs.Numbers.{Decides-is_nothing, has-xor}
 use Rattle.surf_caps.proofs.Images.{images_meet, image_heights_are_heights, image_ends_meet, images_choose, images_choose_next, found_by_image_depend}
 use Rattle.surf_caps.proofs.Quotients.{quotient_law, quotient_choice, sieves_are_quotients}
 use Rattle.surf_caps.proofs.law_of_quotients.Goals as goal

@@ -1,6 +1,5 @@
-use Rattle.surf_surfaces.proofs.Common.{ℕ, numbers}
+use Rattle.surf_surfaces.proofs.Common.{ℕ, numbers, has-xor}
 use Rattle.surf_z2.specs.Sieve.{Row, has}
-use Rattle.surf_z2.proofs.Numbers.{has-xor}
 use Rattle.surf_caps.proofs.Used.{used_law}
 use Rattle.surf_caps.proofs.law_of_used_rows.Goals as goal
 

@@ -1,6 +1,5 @@
 -- The faces with a pair, counted; the places of all corners, counted.
-use Rattle.surf_surfaces.proofs.Common.{◌≡◌, ℕ, zero, suc, ◌+◌, ◌-◌, ◌<◌, inl, inr, refl, ap, List, [], ◌∷◌, length, get_or, true, cond, arith, cases_lt, cases_Bool, Mesh}
-use Rattle.surf_surfaces.specs.Surface.{has_side, places_from, faces_with, HasEdge}
+use Rattle.surf_surfaces.proofs.Common.{◌≡◌, ℕ, zero, suc, ◌+◌, ◌-◌, ◌<◌, inl, inr, refl, ap, List, [], ◌∷◌, length, get_or, true, cond, arith, cases_lt, cases_Bool, Mesh, has_side, places_from, faces_with, HasEdge}
 use Rattle.surf_opening.specs.Numbers.{Numbers}
 use Rattle.surf_opening.specs.Side.{IsPlace}
 use Rattle.surf_opening.proofs.sides.Polygons.{same_pair}

@@ -1,8 +1,5 @@
 -- Numbers below a bound in a strict order of their own: the rank of each is how many come before it.
-use Rattle.surf_surfaces.proofs.Common.{◌≡◌, ◌≢◌, ℕ, zero, suc, ◌<◌, ◌≤◌, ◌⊎◌, inl, inr, sym, refl, ap, ◌∙◌, Bool, true, false, arith, cases_eq, cases_Bool, both_ways, count_below-all}
-use Rattle.surf_z2.specs.Parity.{count_below, any_below, least_below}
-use Rattle.surf_z2.proofs.Counting.{count_mono}
-use Rattle.surf_z2.proofs.ParityLaws.{any_below-found, any_below-from, least_below-found}
+use Rattle.surf_surfaces.proofs.Common.{◌≡◌, ◌≢◌, ℕ, zero, suc, ◌<◌, ◌≤◌, ◌⊎◌, inl, inr, sym, refl, ap, ◌∙◌, Bool, true, false, arith, cases_eq, cases_Bool, both_ways, count_below-all, count_below, any_below, least_below, count_mono, any_below-found, any_below-from, least_below-found}
 use Rattle.surf_opening.proofs.counts.Counting.{pigeons}
 use Rattle.surf_opening.proofs.cuts.NamedEdges.{search_below}
 use Rattle.surf_opening.proofs.openings.Slits.{lower, lower_below, lower_tells}

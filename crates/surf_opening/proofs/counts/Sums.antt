@@ -1,8 +1,7 @@
 -- All copies are those of each vertex, summed up: the sum over the vertices of the greater of 1 and the number of cut
 -- edges there.
 use Rattle.std.proofs.Common.{◌≡◌, ◌≢◌, ℕ, zero, suc, ◌+◌, ◌<◌, ◌≤◌, max, ◌⊎◌, inl, inr, sym, refl, subst, ap, ◌∙◌, cond, eqb, List, arith, eq-eqb, ne_eqb}
-use Rattle.std.proofs.lemmas.Bool.{cases_eq, cases_lt, cond-true, cond-false}
-use Rattle.surf_z2.specs.Parity.{sum_below}
+use Rattle.surf_surfaces.proofs.Common.{cases_eq, cases_lt, cond-true, cond-false, sum_below}
 use Rattle.surf_opening.specs.Numbers.{Numbers}
 use Rattle.surf_opening.specs.Uncut.{Copy, CutEdge, AreEdges}
 use Rattle.surf_opening.proofs.sides.SideWords.{IsSides, IsDarts, SameCorner, IsOneFan}

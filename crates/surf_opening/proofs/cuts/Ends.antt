@@ -1,6 +1,5 @@
 -- Where trimming may end: with two cut edges only if the characteristic is 2.
-use Rattle.surf_surfaces.proofs.Common.{◌≡◌, ◌≢◌, ℕ, zero, suc, ◌+◌, ◌<◌, ◌≤◌, ◌⊎◌, inl, inr, sym, refl, subst, ap, ◌∙◌, List, [], ◌∷◌, length, get_or, arith, cases_eq, Mesh, pair_of, face_count, edge_count, face_at, ends, IsSurface}
-use Rattle.std.proofs.lemmas.List.Elements.{All-get_or}
+use Rattle.surf_surfaces.proofs.Common.{◌≡◌, ◌≢◌, ℕ, zero, suc, ◌+◌, ◌<◌, ◌≤◌, ◌⊎◌, inl, inr, sym, refl, subst, ap, ◌∙◌, List, [], ◌∷◌, length, get_or, arith, cases_eq, Mesh, pair_of, face_count, edge_count, face_at, ends, IsSurface, All-get_or}
 use Rattle.surf_opening.specs.Rim.{Among, along, back, HasMore}
 use Rattle.surf_opening.specs.Side.{Side}
 use Rattle.surf_opening.specs.Uncut.{Uncut, CutSide, In, IsFaceTree, root, grown, IsDualTree, IsTrimmed, whole, leaf, IsLargestLeafless, CutEdge, NoMoreThan, HasNoLeaf}

@@ -1,7 +1,6 @@
 -- Where the characteristic is 2, trimming by the greatest leaf down to two edges leaves the first two of the named
 -- path.
-use Rattle.surf_surfaces.proofs.Common.{Contains, ◌≡◌, ℕ, ◌+◌, ◌<◌, subst, ◌∙◌, List, length, get_or, get_or_default, here, over, Mesh, face_count, edge_count, face_at, IsSurface, HasCorner, after}
-use Rattle.std.proofs.lemmas.List.Elements.{All-get_or, Contains-get_or}
+use Rattle.surf_surfaces.proofs.Common.{Contains, ◌≡◌, ℕ, ◌+◌, ◌<◌, subst, ◌∙◌, List, length, get_or, get_or_default, here, over, Mesh, face_count, edge_count, face_at, IsSurface, HasCorner, after, All-get_or, Contains-get_or}
 use Rattle.surf_opening.specs.Side.{Side, IsPlace}
 use Rattle.surf_opening.specs.Uncut.{IsDualTree, NoMoreThan}
 use Rattle.surf_opening.proofs.sides.SideWords.{IsOneFan}

@@ -2,13 +2,11 @@
 -- along the cut. From one cut side to the next round the border of the opening, the faces between are parted by no edge
 -- of the walk, so all faces along the border are in the set or none is, and nothing is left.
 use Rattle.std.proofs.Common.{◌≡◌, ◌≢◌, ℕ, ◌+◌, ◌<◌, ◌⊎◌, inl, inr, sym, refl, subst, ap, ◌∙◌, Bool, true, false, not, ◌&&◌, eqb, List, [], ◌∷◌, map, length, arith, eqb-true}
-use Rattle.surf_surfaces.proofs.Common.{AllByRecursion, cases_eq, cases_Bool, both_ways, or_cases, or_left, eq-eqb, false_from_ne_true, recursion_from_All, xor, odd, odd_below, count_below, Chain, primal, dual, IsEven, Tree, left_edges, cells_of, cotree_edges, split_of, Mesh, pair, pair_of, pair_eq, steps, steps_from, face_count, edge_count, face_at, ends, faces_of, has_side, touches, HasEdge, IsSurface, parity}
+use Rattle.surf_surfaces.proofs.Common.{AllByRecursion, cases_eq, cases_Bool, both_ways, or_cases, or_left, eq-eqb, false_from_ne_true, recursion_from_All, xor, odd, odd_below, count_below, Chain, primal, dual, IsEven, Tree, left_edges, cells_of, cotree_edges, split_of, Mesh, pair, pair_of, pair_eq, steps, steps_from, face_count, edge_count, face_at, ends, faces_of, has_side, touches, HasEdge, IsSurface, parity, even-xor, boundary, IsBoundary}
 use Rattle.surf_z2.proofs.ParityLaws.{xor_equal, equal_xor, odd_below-same}
 use Rattle.surf_graphs.proofs.CellLaws.{boundary_even as cells_boundary_even, signature_null}
-use Rattle.surf_graphs.proofs.Graphs.{even-xor}
 use Rattle.surf_graphs.proofs.Rounds.{par, par-suc, par-zero, odd_counted}
 use Rattle.surf_graphs.proofs.Trees.{along as along_tree, along_leaves, tree_edge}
-use Rattle.surf_surfaces.specs.Homology.{boundary, IsBoundary}
 use Rattle.surf_surfaces.proofs.meshes.CellLaws.{surfaces_are_cells}
 use Rattle.surf_surfaces.proofs.walks.EvenLaws.{touches-xor}
 use Rattle.surf_surfaces.proofs.meshes.FaceLaws.{touches_first}

@@ -2,8 +2,7 @@
 -- trimmed cut are. Else the edge from some vertex without a mark to its parent is cut. No left edge is there, so another
 -- cut edge leads to a child, which has no mark either, and so on without end.
 use Rattle.std.proofs.Common.{◌≡◌, ◌≢◌, ℕ, zero, suc, ◌+◌, ◌<◌, ◌≤◌, inl, inr, sym, ap, ◌∙◌, Bool, true, false, eqb, eqb-true, arith, get_or}
-use Rattle.surf_surfaces.proofs.Common.{list_any, cases_eq, cases_Bool, both_ways, or_cases, false_from_ne_true, Contains-get_or, Chain, primal, Tree, tree_edge, cells_of, tree_edges, is_left, Mesh, pair, edge_count, ends, touches, IsSurface, parity}
-use Rattle.surf_z2.specs.Parity.{sum_below}
+use Rattle.surf_surfaces.proofs.Common.{list_any, cases_eq, cases_Bool, both_ways, or_cases, false_from_ne_true, Contains-get_or, Chain, primal, Tree, tree_edge, cells_of, tree_edges, is_left, Mesh, pair, edge_count, ends, touches, IsSurface, parity, sum_below}
 use Rattle.surf_surfaces.proofs.meshes.CellLaws.{ends_below, joins_is}
 use Rattle.surf_surfaces.proofs.meshes.EdgeLaws.{list_any_at, list_any_from}
 use Rattle.surf_surfaces.proofs.walks.GraphWalkLaws.{closed_parity_even}

@@ -1,8 +1,7 @@
 -- A tree of the faces, as the graph of faces has it, grows face by face.
-use Rattle.surf_surfaces.proofs.Common.{◌≡◌, ℕ, ◌<◌, ◌⊎◌, inl, inr, sym, subst, ap, ◌∙◌, List, true, eqb, arith, eq-eqb, or_left, or_right, cells_of, Mesh, pair, face_count, edge_count, face_at, ends, faces_of, has_side, HasEdge, IsSurface, dual, Tree, IsTree}
+use Rattle.surf_surfaces.proofs.Common.{◌≡◌, ℕ, ◌<◌, ◌⊎◌, inl, inr, sym, subst, ap, ◌∙◌, List, true, eqb, arith, eq-eqb, or_left, or_right, cells_of, Mesh, pair, face_count, edge_count, face_at, ends, faces_of, has_side, HasEdge, IsSurface, dual, Tree, IsTree, one_of, tree_edge, up_in_tree}
 use Rattle.surf_surfaces.proofs.meshes.CellLaws.{ends_below}
 use Rattle.surf_surfaces.proofs.meshes.SurfaceLaws.{two_faces_of}
-use Rattle.surf_graphs.proofs.Trees.{one_of, tree_edge, up_in_tree}
 use Rattle.surf_opening.specs.Laws.{CotreesAreDualTrees}
 use Rattle.surf_opening.specs.ChosenCut.{HasItsEdges}
 use Rattle.surf_opening.specs.Rim.{Among, along, back}

@@ -1,6 +1,5 @@
 -- For each trimmed cut there is an opening.
-use Rattle.surf_surfaces.proofs.Common.{All, Contains, range_with_len, ◌≡◌, ℕ, ◌+◌, ◌<◌, ◌≤◌, ◌⊎◌, inl, inr, sym, refl, subst, ap, ◌∙◌, List, [], map, length, get_or, arith, cases_lt, length-map, get_or-map, get_or_default, same_lists, get_or-range_with_len, length-range_with_len, All-from_get_or, Mesh, face_count, face_at, IsSurface}
-use Rattle.surf_surfaces.specs.Disc.{IsOpening}
+use Rattle.surf_surfaces.proofs.Common.{All, Contains, range_with_len, ◌≡◌, ℕ, ◌+◌, ◌<◌, ◌≤◌, ◌⊎◌, inl, inr, sym, refl, subst, ap, ◌∙◌, List, [], map, length, get_or, arith, cases_lt, length-map, get_or-map, get_or_default, same_lists, get_or-range_with_len, length-range_with_len, All-from_get_or, Mesh, face_count, face_at, IsSurface, IsOpening}
 use Rattle.surf_opening.specs.Side.{Side, IsPlace}
 use Rattle.surf_opening.specs.Numbers.{Numbers}
 use Rattle.surf_opening.specs.Uncut.{IsDualTree, IsTrimmed}

@@ -1,8 +1,6 @@
 -- Each opening can have its copies in order: by vertex, and then by the least face that has them.
-use Rattle.surf_surfaces.proofs.Common.{Contains, AllPairs, cases_lt, cases_order, cases_Bool, or_cases, or_left, or_right, and_parts, and_from, lt-ltb, ltb-true, get_or_default, Contains-get_or, Mesh, face_count, face_at, IsSurface}
+use Rattle.surf_surfaces.proofs.Common.{Contains, AllPairs, cases_lt, cases_order, cases_Bool, or_cases, or_left, or_right, and_parts, and_from, lt-ltb, ltb-true, get_or_default, Contains-get_or, Mesh, face_count, face_at, IsSurface, any_below, least_below, any_below-found, any_below-from, least_below-found}
 use Rattle.std.proofs.Common.{◌≡◌, ◌≢◌, ℕ, ◌<◌, ◌≤◌, ◌⊎◌, inl, inr, sym, refl, subst, ap, ◌∙◌, Bool, true, false, ◌&&◌, ◌||◌, eqb, ltb, List, [], length, get_or, arith, eqb-true, eq-eqb}
-use Rattle.surf_z2.specs.Parity.{any_below, least_below}
-use Rattle.surf_z2.proofs.ParityLaws.{any_below-found, any_below-from, least_below-found}
 use Rattle.surf_opening.specs.ChosenCut.{AreInOrder}
 use Rattle.surf_opening.specs.Numbers.{Numbers}
 use Rattle.surf_opening.specs.Opening.{corner_of}

@@ -1,6 +1,5 @@
 -- What the faces of an opening share, by what the faces of the surface share.
-use Rattle.surf_surfaces.proofs.Common.{All, ◌≡◌, ℕ, ◌+◌, ◌<◌, ◌≤◌, inl, inr, sym, refl, subst, ap, ◌∙◌, List, [], length, get_or, arith, cases_lt, length-map, get_or-map, get_or_default, Joined, here, over, Mesh, IsMesh, IsFace, pair, face_count, face_at, HasCorner, ShareAt, Share, HasOneFan, after}
-use Rattle.std.proofs.lemmas.List.Elements.{All-get_or}
+use Rattle.surf_surfaces.proofs.Common.{All, ◌≡◌, ℕ, ◌+◌, ◌<◌, ◌≤◌, inl, inr, sym, refl, subst, ap, ◌∙◌, List, [], length, get_or, arith, cases_lt, length-map, get_or-map, get_or_default, Joined, here, over, Mesh, IsMesh, IsFace, pair, face_count, face_at, HasCorner, ShareAt, Share, HasOneFan, after, All-get_or}
 use Rattle.surf_opening.specs.Rim.{along, back}
 use Rattle.surf_opening.specs.Side.{Side, IsPlace}
 use Rattle.surf_opening.specs.Uncut.{Uncut, Copy}

@@ -1,7 +1,6 @@
 -- The law: a surface opened along a trimmed cut is an opening in the sense of `IsOpening`.
-use Rattle.surf_surfaces.proofs.Common.{Contains, ◌≡◌, ℕ, ◌+◌, ◌<◌, ◌≤◌, ◌↔◌, sym, refl, subst, ◌∙◌, List, length, get_or, arith, get_or_default, Contains-get_or, Joined, here, over, Mesh, face_count, edge_count, face_at, faces_with, HasCorner, IsSurface}
+use Rattle.surf_surfaces.proofs.Common.{Contains, ◌≡◌, ℕ, ◌+◌, ◌<◌, ◌≤◌, ◌↔◌, sym, refl, subst, ◌∙◌, List, length, get_or, arith, get_or_default, Contains-get_or, Joined, here, over, Mesh, face_count, edge_count, face_at, faces_with, HasCorner, IsSurface, IsDisc, IsOpening}
 use Rattle.surf_opening.proofs.gluing.Joins.{joined_map}
-use Rattle.surf_surfaces.specs.Disc.{IsDisc, IsOpening}
 use Rattle.surf_opening.specs.Side.{Side, IsPlace}
 use Rattle.surf_opening.specs.Uncut.{Uncut, Copy, IsFaceTree, In, IsDualTree, IsTrimmed}
 use Rattle.surf_opening.proofs.sides.SideWords.{IsSides, IsOpenedAlong}

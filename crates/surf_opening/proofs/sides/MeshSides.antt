@@ -1,6 +1,5 @@
 -- The sides of a closed surface are sides of polygons, two faces at each edge.
-use Rattle.surf_surfaces.proofs.Common.{◌≡◌, ◌≢◌, ℕ, ◌<◌, ◌≤◌, ◌⊎◌, inl, inr, sym, refl, subst, ap, ◌∙◌, [], length, get_or, true, arith, cases_eq, cases_lt, Mesh, IsMesh, IsFace, pair, face_at, face_count, faces_with, has_side, HasEdge, after}
-use Rattle.std.proofs.lemmas.List.Elements.{All-get_or}
+use Rattle.surf_surfaces.proofs.Common.{◌≡◌, ◌≢◌, ℕ, ◌<◌, ◌≤◌, ◌⊎◌, inl, inr, sym, refl, subst, ap, ◌∙◌, [], length, get_or, true, arith, cases_eq, cases_lt, Mesh, IsMesh, IsFace, pair, face_at, face_count, faces_with, has_side, HasEdge, after, All-get_or}
 use Rattle.surf_opening.specs.Rim.{Among, along, back}
 use Rattle.surf_opening.proofs.gluing.RimWords.{Reaches}
 use Rattle.surf_opening.specs.Side.{Side, IsPlace}

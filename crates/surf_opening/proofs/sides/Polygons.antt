@@ -1,6 +1,5 @@
 -- The sides of a face by place: side i leads from corner i to the corner after it.
-use Rattle.surf_surfaces.proofs.Common.{◌≡◌, ℕ, ◌+◌, ◌<◌, ◌≤◌, ◌⊎◌, inl, inr, sym, refl, subst, List, length, get_or, true, ltb, pair, after, has_side}
-use Rattle.std.proofs.lemmas.Bool.{cases_lt, cond-true, cond-false, lt-ltb, le-ltb}
+use Rattle.surf_surfaces.proofs.Common.{◌≡◌, ℕ, ◌+◌, ◌<◌, ◌≤◌, ◌⊎◌, inl, inr, sym, refl, subst, List, length, get_or, true, ltb, pair, after, has_side, cases_lt, cond-true, cond-false, lt-ltb, le-ltb}
 use Rattle.surf_surfaces.proofs.meshes.FaceLaws.{pair_comm}
 use Rattle.surf_surfaces.proofs.meshes.SideLaws.{pair_ends, sides_are_placed}
 use Rattle.surf_opening.specs.Rim.{Among, along, back}

@@ -1,15 +1,9 @@
 -- The basis that is chosen from the loops at all bases.
-use Rattle.surf_surfaces.proofs.Common.{◌≡◌, ℕ, suc, ◌<◌, ◌≤◌, List, [], ◌∷◌, length, map, sum, All, refl, sym, ap, ◌∙◌, subst, arith, AllByRecursion, map-map, length-map, recursion_from_All, All-from_recursion, All-contains, greedy, merge, Decides-is_nothing, Split, IsSplit, signature_of, signed, Mesh, IsSurface, IsClosed, walk_length, ArePositive, cells_of, class_of, weighed_walk}
-use Rattle.surf_z2.specs.Least.{weighed}
-use Rattle.surf_z2.specs.Space.{numbers, is_nothing, Independent, weights, vectors, SpannedUpToWeight}
-use Rattle.surf_z2.proofs.Greedy.{greedy_law, two_step_law}
+use Rattle.surf_surfaces.proofs.Common.{◌≡◌, ℕ, suc, ◌<◌, ◌≤◌, List, [], ◌∷◌, length, map, sum, All, refl, sym, ap, ◌∙◌, subst, arith, AllByRecursion, map-map, length-map, recursion_from_All, All-from_recursion, All-contains, greedy, merge, Decides-is_nothing, Split, IsSplit, signature_of, signed, Mesh, IsSurface, IsClosed, walk_length, ArePositive, cells_of, class_of, weighed_walk, weighed, numbers, is_nothing, Independent, weights, vectors, SpannedUpToWeight, greedy_law, two_step_law, IsSimpleCycle, Trees, AreChosen, Loop, comes_before, walks, loops_at, loops_below, candidates, AreNoLonger}
 use Rattle.surf_z2.proofs.Least.{least_law}
 use Rattle.surf_z2.proofs.Merge.{order_from_sorted, all_merged}
 use Rattle.surf_surfaces.specs.Homology.{IsIndependent, IsBasis, total}
-use Rattle.surf_surfaces.specs.Cycle.{IsSimpleCycle}
-use Rattle.surf_surfaces.specs.Choice.{Trees, AreChosen, Loop, comes_before, walks, loops_at, loops_below, candidates}
 use Rattle.surf_surfaces.specs.Choice.{IsGreedyChoice, IsChosenBasis, IsKeptFrom, nothing, one_more}
-use Rattle.surf_surfaces.specs.Places.{AreNoLonger}
 use Rattle.surf_surfaces.specs.ChoiceLaws.{BasisIsLeast, BasisIsOne, BasisIsKeptBaseByBase}
 use Rattle.surf_surfaces.proofs.classes.ClassLaws.{runs_loop, some_vertex, some_split, independent_by_classes}
 use Rattle.surf_surfaces.proofs.classes.ClassLaws.{independent_walks_are_few}

@@ -1,10 +1,8 @@
 -- The loops at all bases, in order.
-use Rattle.surf_surfaces.proofs.Common.{◌≡◌, ℕ, zero, suc, ◌+◌, ◌<◌, ◌≤◌, true, List, [], ◌∷◌, ◌++◌, length, get_or, map, sym, ap, ◌∙◌, subst, arith, inl, inr, ◌⊎◌, IsPermutation, Contains, AllByRecursion, flat_map, range_with_len, cases_eq, append-nil, length-map, merge, Mesh}
-use Rattle.std.specs.List.Sorted.{IsNonDecreasing}
+use Rattle.surf_surfaces.proofs.Common.{◌≡◌, ℕ, zero, suc, ◌+◌, ◌<◌, ◌≤◌, true, List, [], ◌∷◌, ◌++◌, length, get_or, map, sym, ap, ◌∙◌, subst, arith, inl, inr, ◌⊎◌, IsPermutation, Contains, AllByRecursion, flat_map, range_with_len, cases_eq, append-nil, length-map, merge, Mesh, IsNonDecreasing, Trees, Loop, comes_before, loops_at, loops_below}
 use Rattle.std.proofs.lemmas.List.Concat.{flat_map-append, flat_map-cons}
 use Rattle.std.proofs.lemmas.List.Sorted.{IsPermutation-sym, IsPermutation-trans, IsPermutation-append_left, Contains-permutation}
 use Rattle.surf_z2.proofs.Merge.{Sorted, Comparable, Apart, sorted-permutes, sorted-in_order, sorted_merge, order_from_sorted, comparable_from_sorted, comparable-append, all_sorted, all_joined, same_members, merge_law}
-use Rattle.surf_surfaces.specs.Choice.{Trees, Loop, comes_before, loops_at, loops_below}
 use Rattle.surf_surfaces.proofs.classes.LeastLaws.{all_each}
 use Rattle.surf_surfaces.proofs.bases.LoopsAtLaws.{IsLoopAt, comes_before-trans, comes_before-strict, comes_before-size, bases_apart, loops-sorted, loops_each}
 

@@ -1,12 +1,9 @@
 -- The trees that are chosen exist.
-use Rattle.surf_surfaces.proofs.Common.{◌≡◌, ◌≢◌, ℕ, ◌+◌, ◌<◌, ◌≤◌, Bool, true, not, ◌&&◌, eqb, List, [], ◌∷◌, ◌++◌, refl, sym, ap, ◌∙◌, subst, arith, inl, inr, ◌⊎◌, cases_Bool, cases_lt, cases_eq, and_parts, and_from, eqb-true, eq-eqb, false≢true, nat_tests, any_below-from, primal, dual, IsJoined, edge_between, IsGraphWalk, graph_walk_length, Tree, IsTree, joined_below, Mesh, pair, edges, among, IsSurface, edge_length, edge_number, walk_length, ArePositive, cells_of, loop_length, Trees, AreChosenAt}
-use Rattle.surf_graphs.proofs.Graphs.{walk-append, edge_between_is}
+use Rattle.surf_surfaces.proofs.Common.{◌≡◌, ◌≢◌, ℕ, ◌+◌, ◌<◌, ◌≤◌, Bool, true, not, ◌&&◌, eqb, List, [], ◌∷◌, ◌++◌, refl, sym, ap, ◌∙◌, subst, arith, inl, inr, ◌⊎◌, cases_Bool, cases_lt, cases_eq, and_parts, and_from, eqb-true, eq-eqb, false≢true, nat_tests, any_below-from, primal, dual, IsJoined, edge_between, IsGraphWalk, graph_walk_length, Tree, IsTree, joined_below, Mesh, pair, edges, among, IsSurface, edge_length, edge_number, walk_length, ArePositive, cells_of, loop_length, Trees, AreChosenAt, walk-append, edge_between_is, LeadsFrom, IsDistance, IsTight, IsShortestTree}
 use Rattle.surf_graphs.proofs.HeaviestTrees.{HeaviestTree, heaviest_tree}
 use Rattle.surf_graphs.proofs.CellLaws.{outside_joins}
 use Rattle.surf_graphs.proofs.ShortestWalks.{ShortestWalk, shortest_walk, first_passing}
 use Rattle.surf_graphs.proofs.Splitting.{walk_parts}
-use Rattle.surf_surfaces.specs.Distance.{LeadsFrom, IsDistance}
-use Rattle.surf_surfaces.specs.ShortestTree.{IsTight, IsShortestTree}
 use Rattle.surf_surfaces.specs.Cotree.{tree_edges, precedes, is_no_later, IsHeaviestCotree}
 use Rattle.surf_surfaces.specs.ChoiceLaws.{ChoiceExists}
 use Rattle.surf_surfaces.proofs.meshes.EdgeLaws.{among-contains, contains_from_among}

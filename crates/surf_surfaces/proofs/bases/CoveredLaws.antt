@@ -1,12 +1,7 @@
 -- Each closed walk is a sum of loops at the bases that are no longer.
-use Rattle.surf_surfaces.proofs.Common.{◌≡◌, ℕ, zero, suc, ◌<◌, ◌≤◌, Bool, true, false, List, [], ◌∷◌, length, map, get_or, All, Contains, refl, sym, ap, ◌∙◌, subst, arith, AllByRecursion, length-map, get_or-map, recursion_from_All, All-from_recursion, numbers, chosen, SpannedUpToWeight, primal, Split, IsSplit, IsEven, IsGraphWalk, walk_chain, graph_walk_length, Mesh, edge_count, IsSurface, IsClosed, edge_length, first, parity, walk_length, ArePositive, cells_of, class_of, weighed_walk, loop_walk, loop_length, split_of}
-use Rattle.std.specs.List.Sorted.{IsNonDecreasing}
-use Rattle.surf_z2.specs.Least.{weighed}
+use Rattle.surf_surfaces.proofs.Common.{◌≡◌, ℕ, zero, suc, ◌<◌, ◌≤◌, Bool, true, false, List, [], ◌∷◌, length, map, get_or, All, Contains, refl, sym, ap, ◌∙◌, subst, arith, AllByRecursion, length-map, get_or-map, recursion_from_All, All-from_recursion, numbers, chosen, SpannedUpToWeight, primal, Split, IsSplit, IsEven, IsGraphWalk, walk_chain, graph_walk_length, Mesh, edge_count, IsSurface, IsClosed, edge_length, first, parity, walk_length, ArePositive, cells_of, class_of, weighed_walk, loop_walk, loop_length, split_of, IsNonDecreasing, weighed, signed, loop_chain, even_same, Trees, AreChosen, Loop, walks, loops_at, loops_below, candidates}
 use Rattle.surf_z2.proofs.Ranks.{spanned_among}
-use Rattle.surf_graphs.specs.Independence.{signed, loop_chain}
-use Rattle.surf_graphs.proofs.Graphs.{even_same}
 use Rattle.surf_graphs.proofs.Independence.{spanned_other, walk_spanned}
-use Rattle.surf_surfaces.specs.Choice.{Trees, AreChosen, Loop, walks, loops_at, loops_below, candidates}
 use Rattle.surf_surfaces.proofs.meshes.CellLaws.{surfaces_are_cells}
 use Rattle.surf_surfaces.proofs.walks.GraphWalkLaws.{graph_walk, closed_parity_even}
 use Rattle.surf_surfaces.proofs.classes.ClassLaws.{runs_loop, closed_walk_spanned}

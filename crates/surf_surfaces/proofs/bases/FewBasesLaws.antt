@@ -1,11 +1,6 @@
 -- Few bases suffice: what the loops that were found span, and what the candidates span.
 use Rattle.std.proofs.Common.{◌≡◌, ℕ, ◌+◌, ◌<◌, ◌≤◌, Bool, true, false, ◌&&◌, eqb, leb, min, List, ◌∷◌, length, map, filter, take, get_or, bit_xor, All, sym, ap, ◌∙◌, subst, arith, inl, inr, ◌⊎◌, eqb-true}
-use Rattle.surf_surfaces.proofs.Common.{cases_eq, cases_Bool, and_parts, leb-true, nat_tests, map-map, recursion_from_All, All-from_recursion, All-contains, Contains-get_or, numbers, is_nothing, difference, Spanned, SpannedUpToWeight, Decides-is_nothing, InSpan, AllInSpan, zero_in, add_in, trans_in, in_from_spanned, spanned_from_in, primal, Split, IsSplit, IsGraphWalk, walk_chain, graph_walk_length, signature_of, Tree, loop, Mesh, edge_count, ends, IsSurface, IsClosed, edge_length, parity, walk_length, ArePositive, cells_of, class_of, weighed_walk, AreShortestTrees, loop_walk, loop_length, Trees, AreChosen, Loop, comes_before, walks, loops_at, candidates}
-use Rattle.surf_z2.specs.Least.{weighed}
-use Rattle.surf_z2.proofs.Least.{up_to_weighed}
-use Rattle.surf_z2.proofs.Passing.{some_or_none, member_in, all_passing, passing_before}
-use Rattle.surf_z2.proofs.Ranks.{in_wider}
-use Rattle.surf_graphs.proofs.Independence.{signature_of-same, signature_of-linear, walk_spanned}
+use Rattle.surf_surfaces.proofs.Common.{cases_eq, cases_Bool, and_parts, leb-true, nat_tests, map-map, recursion_from_All, All-from_recursion, All-contains, Contains-get_or, numbers, is_nothing, difference, Spanned, SpannedUpToWeight, Decides-is_nothing, InSpan, AllInSpan, zero_in, add_in, trans_in, in_from_spanned, spanned_from_in, primal, Split, IsSplit, IsGraphWalk, walk_chain, graph_walk_length, signature_of, Tree, loop, Mesh, edge_count, ends, IsSurface, IsClosed, edge_length, parity, walk_length, ArePositive, cells_of, class_of, weighed_walk, AreShortestTrees, loop_walk, loop_length, Trees, AreChosen, Loop, comes_before, walks, loops_at, candidates, weighed, up_to_weighed, some_or_none, member_in, all_passing, passing_before, in_wider, signature_of-same, signature_of-linear, walk_spanned}
 use Rattle.surf_graphs.proofs.Through.{over_spanned, two_parts}
 use Rattle.surf_surfaces.specs.FewBases.{least_on_way, least_base, Place, is_no_later, place_at, Found, is_within, walks_within, MeetsAll, IsFoundLoop, AreEnough, HasFound, FewBasesSuffice}
 use Rattle.surf_surfaces.proofs.bases.CoveredLaws.{weighed_loops, loops_covered_at}

@@ -1,12 +1,7 @@
 -- The first candidate, and whether there is one.
-use Rattle.surf_surfaces.proofs.Common.{◌≡◌, ℕ, ◌+◌, ◌<◌, ◌≤◌, Bool, true, List, [], ◌∷◌, length, map, replicate, get_or, refl, sym, ap, ◌∙◌, subst, arith, inl, inr, Contains, AllByRecursion, cases_lt, eq-eqb, false≢true, length-map, get_or-replicate, numbers, is_nothing, SpannedUpToWeight, Decides-is_nothing, in_from_spanned, primal, signature, Split, IsSplit, IsEven, loop, left_edges as left_edges_count, Mesh, face_count, edge_count, IsSurface, edge_length, parity, ArePositive, IsLoopCount, cells_of, class_of, AreShortestTrees, loop_walk, loop_length, Trees, AreChosenAt, AreChosen, Loop, loops_at, candidates}
-use Rattle.std.proofs.lemmas.List.Sorted.{length_permutation}
-use Rattle.surf_z2.specs.Least.{weighed}
+use Rattle.surf_surfaces.proofs.Common.{◌≡◌, ℕ, ◌+◌, ◌<◌, ◌≤◌, Bool, true, List, [], ◌∷◌, length, map, replicate, get_or, refl, sym, ap, ◌∙◌, subst, arith, inl, inr, Contains, AllByRecursion, cases_lt, eq-eqb, false≢true, length-map, get_or-replicate, numbers, is_nothing, SpannedUpToWeight, Decides-is_nothing, in_from_spanned, primal, signature, Split, IsSplit, IsEven, loop, left_edges as left_edges_count, Mesh, face_count, edge_count, IsSurface, edge_length, parity, ArePositive, IsLoopCount, cells_of, class_of, AreShortestTrees, loop_walk, loop_length, Trees, AreChosenAt, AreChosen, Loop, loops_at, candidates, length_permutation, weighed, signature_of, signed, loop_chain, even_same, signature_of-same, zero_null}
 use Rattle.surf_z2.proofs.Least.{lighter_before}
-use Rattle.surf_graphs.specs.Independence.{signature_of, signed, loop_chain}
 use Rattle.surf_graphs.proofs.CellLaws.{null_signature}
-use Rattle.surf_graphs.proofs.Graphs.{even_same}
-use Rattle.surf_graphs.proofs.Independence.{signature_of-same, zero_null}
 use Rattle.surf_graphs.proofs.Lengths.{loop_signature, left_signature}
 use Rattle.surf_surfaces.specs.Cycle.{IsSimpleCycle, Separation, IsShortestNonseparating}
 use Rattle.surf_surfaces.specs.CycleLaws.{IsEssential}

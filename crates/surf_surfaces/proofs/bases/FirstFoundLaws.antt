@@ -1,8 +1,6 @@
 -- The first candidate, from few bases, and short searches.
-use Rattle.surf_surfaces.proofs.Common.{◌≡◌, ℕ, zero, suc, ◌+◌, ◌<◌, ◌≤◌, Bool, leb, not, true, false, List, [], ◌∷◌, length, map, filter, get_or, All, Contains, refl, sym, ap, ◌∙◌, subst, arith, inl, inr, ◌⊎◌, AllByRecursion, cases_eq, cases_Bool, false≢true, nat_tests, length-map, recursion_from_All, All-from_recursion, All-contains, Contains-permutation, numbers, is_nothing, Spanned, Independent, Decides-is_nothing, InSpan, in_from_spanned, spanned_from_in, Split, IsSplit, Tree, Mesh, edge_count, ends, IsSurface, IsClosed, edge_length, walk_length, ArePositive, IsIndependent, IsLoopCount, cells_of, class_of, AreShortestTrees, loop_walk, Trees, AreChosen, Loop, comes_before, walks, loop_at, loops_at, candidates, DependsOn}
+use Rattle.surf_surfaces.proofs.Common.{◌≡◌, ℕ, zero, suc, ◌+◌, ◌<◌, ◌≤◌, Bool, leb, not, true, false, List, [], ◌∷◌, length, map, filter, get_or, All, Contains, refl, sym, ap, ◌∙◌, subst, arith, inl, inr, ◌⊎◌, AllByRecursion, cases_eq, cases_Bool, false≢true, nat_tests, length-map, recursion_from_All, All-from_recursion, All-contains, Contains-permutation, numbers, is_nothing, Spanned, Independent, Decides-is_nothing, InSpan, in_from_spanned, spanned_from_in, Split, IsSplit, Tree, Mesh, edge_count, ends, IsSurface, IsClosed, edge_length, walk_length, ArePositive, IsIndependent, IsLoopCount, cells_of, class_of, AreShortestTrees, loop_walk, Trees, AreChosen, Loop, comes_before, walks, loop_at, loops_at, candidates, DependsOn, up_to_weighed, Sorted, sorted-permutes}
 use Rattle.surf_z2.proofs.Greedy.{greedy_law, basis_law}
-use Rattle.surf_z2.proofs.Least.{up_to_weighed}
-use Rattle.surf_z2.proofs.Merge.{Sorted, sorted-permutes}
 use Rattle.surf_z2.proofs.Passing.{passing_before, filter_all}
 use Rattle.surf_z2.proofs.Ranks.{in_whole}
 use Rattle.surf_surfaces.specs.Cotree.{is_left, left_edges}

@@ -1,12 +1,7 @@
 -- How the loops that are enough are found, vertex by vertex.
 use Rattle.std.proofs.Common.{◌≡◌, ℕ, zero, suc, ◌<◌, ◌≤◌, ◌⊎◌, ◌&&◌, Bool, true, false, eqb, ltb, eq-eqb, List, [], ◌∷◌, ◌++◌, length, map, filter, take, get_or, All, Contains, IsPermutation, refl, sym, ap, ◌∙◌, subst, arith, inl, inr, eqb-true}
-use Rattle.surf_surfaces.proofs.Common.{AllByRecursion, cases_eq, cases_Bool, or_cases, or_left, or_right, and_parts, and_from, ltb-true, lt-ltb, false≢true, nat_tests, map-map, Contains-permutation, All-permutation, greedy, sorted, Decides-is_nothing, InSpan, zero_in, trans_in, in_from_spanned, spanned_from_in, Split, IsSplit, Tree, Mesh, edge_count, IsSurface, IsClosed, IsNull, IsIndependent, cells_of, class_of, AreShortestTrees, loop_walk, loop_length, DependsOn}
-use Rattle.std.proofs.lemmas.List.Elements.{recursion_from_All, All-from_recursion, All-take, All-append, Contains-append_left, Contains-append_right, Contains-get_or}
-use Rattle.surf_z2.specs.Space.{numbers, is_nothing, no_member, Spanned, Independent}
-use Rattle.surf_z2.proofs.Greedy.{greedy_law, all_kept}
+use Rattle.surf_surfaces.proofs.Common.{AllByRecursion, cases_eq, cases_Bool, or_cases, or_left, or_right, and_parts, and_from, ltb-true, lt-ltb, false≢true, nat_tests, map-map, Contains-permutation, All-permutation, greedy, sorted, Decides-is_nothing, InSpan, zero_in, trans_in, in_from_spanned, spanned_from_in, Split, IsSplit, Tree, Mesh, edge_count, IsSurface, IsClosed, IsNull, IsIndependent, cells_of, class_of, AreShortestTrees, loop_walk, loop_length, DependsOn, recursion_from_All, All-from_recursion, All-take, All-append, Contains-append_left, Contains-append_right, Contains-get_or, numbers, is_nothing, no_member, Spanned, Independent, greedy_law, all_kept, Sorted, Comparable, sorted_from_order, order_from_sorted, sorted-permutes, sorted-in_order, member_in, all_passing, all_greedy, all_filtered, ArePassingFirst, filter_of_greedy}
 use Rattle.surf_z2.proofs.Kept.{kept_law}
-use Rattle.surf_z2.proofs.Merge.{Sorted, Comparable, sorted_from_order, order_from_sorted, sorted-permutes, sorted-in_order}
-use Rattle.surf_z2.proofs.Passing.{member_in, all_passing, all_greedy, all_filtered, ArePassingFirst, filter_of_greedy}
 use Rattle.surf_surfaces.specs.FewBases.{Place, is_no_later, place_at, Found, place_of_found, is_within, walks_found, walks_within, IsFoundAt, IsFoundLoop, AreEnoughOf, comes_no_later, least_base, every_place, IsFoundChoice, AreFoundAt, with_vertex, LoopsGrowEnough, EnoughLoopsExist}
 use Rattle.surf_surfaces.proofs.classes.ClassLaws.{some_split, null_by_class, independent_by_classes}
 use Rattle.surf_surfaces.proofs.bases.FewBasesLaws.{no_later-trans, no_later-same}

@@ -1,9 +1,5 @@
 -- The places of loops that are enough are those of the basis.
-use Rattle.surf_surfaces.proofs.Common.{◌≡◌, ℕ, suc, ◌≤◌, Bool, true, false, cond, List, [], ◌∷◌, length, map, filter, refl, sym, ap, ◌∙◌, subst, arith, inl, inr, AllByRecursion, cases_Bool, false≢true, nat_tests, map-map, length-map, recursion_from_All, All-from_recursion, greedy, numbers, is_nothing, Independent, Sorted, sorted_from_order, Decides-is_nothing, Split, IsSplit, Tree, Mesh, IsSurface, IsClosed, ArePositive, IsIndependent, cells_of, class_of, AreShortestTrees, Trees, AreChosen, Loop, comes_before, candidates, IsChosenBasis}
-use Rattle.surf_z2.proofs.Greedy.{greedy_law, all_kept}
-use Rattle.surf_z2.proofs.Passing.{filter_none, ArePassingFirst, all_passing, all_greedy, sorted_greedy, filter_of_greedy}
-use Rattle.surf_z2.proofs.Ranks.{in_wider, free_filter}
-use Rattle.surf_z2.proofs.Span.{InSpan, AllInSpan, Free, count, trans_in, free_from_independent}
+use Rattle.surf_surfaces.proofs.Common.{◌≡◌, ℕ, suc, ◌≤◌, Bool, true, false, cond, List, [], ◌∷◌, length, map, filter, refl, sym, ap, ◌∙◌, subst, arith, inl, inr, AllByRecursion, cases_Bool, false≢true, nat_tests, map-map, length-map, recursion_from_All, All-from_recursion, greedy, numbers, is_nothing, Independent, Sorted, sorted_from_order, Decides-is_nothing, Split, IsSplit, Tree, Mesh, IsSurface, IsClosed, ArePositive, IsIndependent, cells_of, class_of, AreShortestTrees, Trees, AreChosen, Loop, comes_before, candidates, IsChosenBasis, greedy_law, all_kept, filter_none, ArePassingFirst, all_passing, all_greedy, sorted_greedy, filter_of_greedy, in_wider, free_filter, InSpan, AllInSpan, Free, count, trans_in, free_from_independent}
 use Rattle.surf_surfaces.specs.FewBases.{Place, is_no_later, Found, place_of_found, place_of_loop, is_within, walks_found, MeetsAll, IsFoundLoop, AreEnough, comes_no_later, PlacesAreThoseOfBasis}
 use Rattle.surf_surfaces.proofs.bases.BasisLaws.{basis_is}
 use Rattle.surf_surfaces.proofs.bases.CandidateLaws.{IsLoopBelow, below-sorted, below_each}

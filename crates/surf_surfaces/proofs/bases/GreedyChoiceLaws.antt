@@ -1,11 +1,8 @@
 -- The greedy choice from loops, by the classes of their walks.
 use Rattle.std.proofs.Common.{◌≡◌, ℕ, ◌<◌, Bool, true, false, List, ◌∷◌, length, map, take, get_or, All, sym, subst, MatchBool}
-use Rattle.surf_surfaces.proofs.Common.{AllByRecursion, map-map, greedy, Decides-is_nothing, IsEven, signature_of, Mesh, IsSurface, IsClosed, parity, cells_of, class_of, Loop, walks, DependsOn, IsGreedyChoice}
-use Rattle.std.proofs.lemmas.List.Elements.{recursion_from_All, All-from_recursion, All-take}
-use Rattle.surf_z2.specs.Space.{chains, chosen, numbers, is_nothing, difference, sum_of, Spanned}
+use Rattle.surf_surfaces.proofs.Common.{AllByRecursion, map-map, greedy, Decides-is_nothing, IsEven, signature_of, Mesh, IsSurface, IsClosed, parity, cells_of, class_of, Loop, walks, DependsOn, IsGreedyChoice, recursion_from_All, All-from_recursion, All-take, chains, chosen, numbers, is_nothing, difference, sum_of, Spanned, primal, Split, IsSplit, IsNullChain}
 use Rattle.surf_z2.proofs.Below.{chosen-map}
 use Rattle.surf_z2.proofs.Kept.{kept_law}
-use Rattle.surf_graphs.specs.Cells.{primal, Split, IsSplit, IsNullChain}
 use Rattle.surf_graphs.proofs.Independence.{spanned_from_null, null_from_spanned}
 use Rattle.surf_surfaces.proofs.meshes.CellLaws.{surfaces_are_cells}
 use Rattle.surf_surfaces.proofs.classes.SumLaws.{sum_from_total, total_from_sum}

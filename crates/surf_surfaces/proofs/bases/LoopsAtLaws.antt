@@ -1,13 +1,8 @@
 -- The loops at one base, in order.
-use Rattle.surf_surfaces.proofs.Common.{◌≡◌, ℕ, suc, ◌+◌, ◌<◌, ◌≤◌, true, false, List, [], ◌∷◌, map, All, IsPermutation, refl, sym, ap, ◌∙◌, subst, arith, inl, inr, ◌⊎◌, AllByRecursion, cases_Bool, nat_tests, map-map, All-from_recursion, All-contains, Tree, IsTree, IsShortest, Mesh, edge_count, IsSurface, cells_of, weighed_walk, loop_walk, Trees, AreChosenAt, Loop, comes_before, walks, loop_at, loops_at}
-use Rattle.std.proofs.lemmas.List.Sorted.{IsPermutation-map}
+use Rattle.surf_surfaces.proofs.Common.{◌≡◌, ℕ, suc, ◌+◌, ◌<◌, ◌≤◌, true, false, List, [], ◌∷◌, map, All, IsPermutation, refl, sym, ap, ◌∙◌, subst, arith, inl, inr, ◌⊎◌, AllByRecursion, cases_Bool, nat_tests, map-map, All-from_recursion, All-contains, Tree, IsTree, IsShortest, Mesh, edge_count, IsSurface, cells_of, weighed_walk, loop_walk, Trees, AreChosenAt, Loop, comes_before, walks, loop_at, loops_at, IsPermutation-map, primal, IsSplit, IsHeaviest, IsClosedAt, edge_length, walk_length, ArePositive, IsIndependent, IsLeastLoopSystem, AreNoLonger}
 use Rattle.surf_z2.proofs.Merge.{Sorted, Comparable, sorted-permutes, sorted-in_order, order_from_sorted, all_sorted}
-use Rattle.surf_graphs.specs.Cells.{primal, IsSplit, IsHeaviest}
-use Rattle.surf_surfaces.specs.Walk.{IsClosedAt, edge_length, walk_length, ArePositive}
-use Rattle.surf_surfaces.specs.Homology.{IsIndependent, IsLeastLoopSystem}
 use Rattle.surf_surfaces.specs.Cotree.{is_left, left_edges, split_of}
 use Rattle.surf_surfaces.specs.ChoiceLaws.{LoopsAreLeast}
-use Rattle.surf_surfaces.specs.Places.{AreNoLonger}
 use Rattle.surf_surfaces.proofs.classes.ClassLaws.{runs_loop, closed_walk_spanned}
 use Rattle.surf_surfaces.proofs.classes.LeastLaws.{map-same, all_each, all_mapped, left_spans, left_loops_are_least}
 use Rattle.surf_surfaces.proofs.classes.ShortSums.{spanned_no_longer}

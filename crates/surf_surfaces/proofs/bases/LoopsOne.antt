@@ -1,8 +1,7 @@
 -- The loops that are chosen at a base are one list.
 use Rattle.std.proofs.Common.{◌≡◌, ◌≢◌, ℕ, zero, suc, ◌<◌, true, false, not, ◌&&◌, eqb, List, ◌∷◌, ◌++◌, refl, sym, ap, ◌∙◌, arith, inl, inr, subst, eq-eqb}
-use Rattle.surf_surfaces.proofs.Common.{cases_eq, ne_eqb, sorted, any_below-same, primal, dual, between, IsTree, tree_edge, Mesh, edge_count, ends, faces_of, IsSurface, ArePositive, cells_of, loop_walk, loop_length, Trees, AreChosenAt, comes_before, loop_at, loops_at}
+use Rattle.surf_surfaces.proofs.Common.{cases_eq, ne_eqb, sorted, any_below-same, primal, dual, between, IsTree, tree_edge, Mesh, edge_count, ends, faces_of, IsSurface, ArePositive, cells_of, loop_walk, loop_length, Trees, AreChosenAt, comes_before, loop_at, loops_at, way_down, way_up}
 use Rattle.surf_z2.proofs.Passing.{mapped_same}
-use Rattle.surf_graphs.specs.Loops.{way_down, way_up}
 use Rattle.surf_surfaces.specs.ShortestTree.{SameTree}
 use Rattle.surf_surfaces.specs.Cotree.{tree_edges, is_left, precedes, IsHeaviestCotree, SameCotree}
 use Rattle.surf_surfaces.specs.ChoiceLaws.{LoopsAreOne}

@@ -1,6 +1,5 @@
 -- The candidates and the basis are one, whichever trees show them.
-use Rattle.surf_surfaces.proofs.Common.{◌≡◌, ℕ, zero, suc, ◌+◌, ◌<◌, List, ◌++◌, refl, sym, ap, ◌∙◌, arith, subst, flat_map, range_with_len, sorted, comes_before, loops_at, IsGreedyChoice}
-use Rattle.std.proofs.lemmas.List.Concat.{flat_map-cons}
+use Rattle.surf_surfaces.proofs.Common.{◌≡◌, ℕ, zero, suc, ◌+◌, ◌<◌, List, ◌++◌, refl, sym, ap, ◌∙◌, arith, subst, flat_map, range_with_len, sorted, comes_before, loops_at, IsGreedyChoice, flat_map-cons}
 use Rattle.surf_surfaces.specs.ChoiceLaws.{CandidatesAreOne, BasesAreOne}
 use Rattle.surf_surfaces.proofs.bases.LoopsOne.{loops_are_one}
 use Rattle.surf_surfaces.proofs.bases.BasisLaws.{basis_is_one}

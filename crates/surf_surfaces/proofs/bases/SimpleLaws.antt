@@ -1,9 +1,8 @@
 -- The loops of the chosen basis are simple cycles.
-use Rattle.surf_surfaces.proofs.Common.{◌≡◌, ℕ, zero, suc, ◌<◌, ◌≤◌, Bool, true, false, List, [], ◌∷◌, length, map, take, get_or, AllByRecursion, cases_Bool, All-from_recursion, any_below, numbers, is_nothing, chosen, difference, Spanned, Decides-is_nothing, any_below-found, any_below-none, InSpan, add_in, in_from_spanned, spanned_from_in, primal, Split, IsSplit, IsGraphWalk, walk_chain, graph_walk_length, signature_of, signature_of-same, signature_of-linear, joined_below, Mesh, edge_count, IsSurface, IsClosed, edge_length, first, parity, walk_length, ArePositive, cells_of, class_of, Trees, AreChosen, Loop, walks, candidates, DependsOn, IsChosenBasis}
+use Rattle.surf_surfaces.proofs.Common.{◌≡◌, ℕ, zero, suc, ◌<◌, ◌≤◌, Bool, true, false, List, [], ◌∷◌, length, map, take, get_or, AllByRecursion, cases_Bool, All-from_recursion, any_below, numbers, is_nothing, chosen, difference, Spanned, Decides-is_nothing, any_below-found, any_below-none, InSpan, add_in, in_from_spanned, spanned_from_in, primal, Split, IsSplit, IsGraphWalk, walk_chain, graph_walk_length, signature_of, signature_of-same, signature_of-linear, joined_below, Mesh, edge_count, IsSurface, IsClosed, edge_length, first, parity, walk_length, ArePositive, cells_of, class_of, Trees, AreChosen, Loop, walks, candidates, DependsOn, IsChosenBasis, IsSimpleCycle, tail}
 use Rattle.std.proofs.Common.{bit_xor, All, refl, sym, ◌∙◌, subst, arith, inl, inr, MatchBool}
 use Rattle.surf_z2.proofs.Least.{lighter_before}
 use Rattle.surf_graphs.proofs.Splitting.{simple_or_two}
-use Rattle.surf_surfaces.specs.Cycle.{IsSimpleCycle, tail}
 use Rattle.surf_surfaces.proofs.meshes.CellLaws.{surfaces_are_cells}
 use Rattle.surf_surfaces.proofs.walks.GraphWalkLaws.{graph_walk}
 use Rattle.surf_surfaces.proofs.classes.LeastLaws.{all_mapped}

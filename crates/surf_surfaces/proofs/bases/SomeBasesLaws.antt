@@ -1,10 +1,8 @@
 -- The choice from some bases.
 use Rattle.std.proofs.Common.{◌≡◌, ℕ, zero, suc, ◌+◌, ◌-◌, ◌<◌, ◌≤◌, Bool, true, false, eqb, List, [], ◌∷◌, length, filter, get_or, Contains, refl, sym, ap, ◌∙◌, subst, arith, inl, inr, eqb-true, eq-eqb}
-use Rattle.surf_surfaces.proofs.Common.{AllByRecursion, cases_lt, false_from_ne_true, recursion_from_All, greedy, merge, any_below, numbers, is_nothing, Decides-is_nothing, any_below-found, any_below-from, Split, IsSplit, Mesh, IsSurface, IsClosed, ArePositive, cells_of, class_of}
-use Rattle.surf_z2.proofs.Greedy.{two_step_law}
+use Rattle.surf_surfaces.proofs.Common.{AllByRecursion, cases_lt, false_from_ne_true, recursion_from_All, greedy, merge, any_below, numbers, is_nothing, Decides-is_nothing, any_below-found, any_below-from, Split, IsSplit, Mesh, IsSurface, IsClosed, ArePositive, cells_of, class_of, two_step_law, Trees, AreChosen, Loop, comes_before, loops_at, loops_below, candidates, IsGreedyChoice, IsChosenBasis}
 use Rattle.surf_z2.proofs.Merge.{Sorted, order_from_sorted, all_merged}
 use Rattle.surf_z2.proofs.Passing.{all_filtered, greedy_filtered, filter_merge_out, filter_merge_in, sorted_filtered}
-use Rattle.surf_surfaces.specs.Choice.{Trees, AreChosen, Loop, comes_before, loops_at, loops_below, candidates, IsGreedyChoice, IsChosenBasis}
 use Rattle.surf_surfaces.specs.FewBases.{IsKeptAmong, none_yet, passed_over, taken, HasBase, BasisIsKeptAmong, IsKeptOver, none_of_them, one_of_them, AreBases, BasisIsKeptOver, BasisIsKeptOverFew}
 use Rattle.surf_surfaces.proofs.bases.CoveredLaws.{below_closed}
 use Rattle.surf_surfaces.proofs.bases.BasisLaws.{basis_is, greedy_closed, at_closed, basis_is_one}

@@ -1,13 +1,10 @@
 -- Which closed walks are null and which are independent, by their classes, and which lists of them are least.
-use Rattle.surf_surfaces.proofs.Common.{◌≡◌, ℕ, ◌<◌, ◌≤◌, List, [], ◌∷◌, length, map, sum, All, refl, sym, ap, ◌∙◌, subst, arith, AllByRecursion, map-map, length-map, recursion_from_All, All-from_recursion, IsEven, walk_chain, Tree, IsTree, IsShortest, loop, left_edges, Mesh, edge_count, IsSurface, tail, IsIndependent, total, loop_walk, loop_length}
-use Rattle.surf_z2.specs.Space.{Chain, chains, numbers, chosen, sum_of, Independent, Weighed, weights, SpannedUpToWeight}
+use Rattle.surf_surfaces.proofs.Common.{◌≡◌, ℕ, ◌<◌, ◌≤◌, List, [], ◌∷◌, length, map, sum, All, refl, sym, ap, ◌∙◌, subst, arith, AllByRecursion, map-map, length-map, recursion_from_All, All-from_recursion, IsEven, walk_chain, Tree, IsTree, IsShortest, loop, left_edges, Mesh, edge_count, IsSurface, tail, IsIndependent, total, loop_walk, loop_length, Chain, chains, numbers, chosen, sum_of, Independent, Weighed, weights, SpannedUpToWeight, primal, Split, IsSplit, IsNullChain, IsClosed, IsClosedAt, edge_length, first, parity, walk_length}
 use Rattle.surf_z2.proofs.Below.{chosen-map, map_nil}
 use Rattle.surf_graphs.specs.Independence.{signature_of, signed, loop_chain, AreIndependentChains}
-use Rattle.surf_graphs.specs.Cells.{primal, Split, IsSplit, IsNullChain}
 use Rattle.surf_graphs.proofs.Existence.{split_exists}
 use Rattle.surf_graphs.proofs.Independence.{signature_of-same, null_zero, zero_null, signatures_from_independent, independent_from_signatures, independent_bound, walk_spanned, spanned_least}
 use Rattle.surf_graphs.proofs.Loops.{loop_runs}
-use Rattle.surf_surfaces.specs.Walk.{IsClosed, IsClosedAt, edge_length, first, parity, walk_length}
 use Rattle.surf_surfaces.specs.Cells.{cells_of, IndependenceIsThatOfChains, IndependentWalksAreFew}
 use Rattle.surf_surfaces.specs.Class.{weighed_walk, NullByClass, IndependentByClasses}
 use Rattle.surf_surfaces.proofs.meshes.CellLaws.{surfaces_are_cells}

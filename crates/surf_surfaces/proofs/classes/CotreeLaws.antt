@@ -1,9 +1,7 @@
 -- Laws of the heaviest tree of faces.
-use Rattle.surf_surfaces.proofs.Common.{◌≡◌, ◌≢◌, ℕ, zero, suc, ◌+◌, ◌<◌, ◌≤◌, Bool, true, false, not, ◌&&◌, cond, eqb, List, [], ◌∷◌, length, get_or, refl, sym, ap, ◌∙◌, subst, arith, inl, inr, cases_Bool, cases_eq, and_parts, false≢true, false_from_ne_true, nat_tests, xor, odd_below, between, Tree, IsTree, in_tree, on_path, Mesh, face_count, edge_count, faces_of, IsSurface, edge_length, cells_of, loop_length}
+use Rattle.surf_surfaces.proofs.Common.{◌≡◌, ◌≢◌, ℕ, zero, suc, ◌+◌, ◌<◌, ◌≤◌, Bool, true, false, not, ◌&&◌, cond, eqb, List, [], ◌∷◌, length, get_or, refl, sym, ap, ◌∙◌, subst, arith, inl, inr, cases_Bool, cases_eq, and_parts, false≢true, false_from_ne_true, nat_tests, xor, odd_below, between, Tree, IsTree, in_tree, on_path, Mesh, face_count, edge_count, faces_of, IsSurface, edge_length, cells_of, loop_length, primal, dual, IsSplit, IsHeaviest, Graph, leaves}
 use Rattle.std.specs.List.{AllByRecursion, filter, range_with_len}
 use Rattle.surf_z2.proofs.ParityLaws.{same_tests, odd_below-found, odd_below-and-xor, xor_ends}
-use Rattle.surf_graphs.specs.Cells.{primal, dual, IsSplit, IsHeaviest}
-use Rattle.surf_graphs.specs.Graphs.{Graph, leaves}
 use Rattle.surf_graphs.proofs.CellLaws.{beyond}
 use Rattle.surf_graphs.proofs.SameTrees.{parents_same, ups_same}
 use Rattle.surf_graphs.proofs.Trees.{down_tree, path_leaves, path_inside, leaves_path, tree_edge, along_is}

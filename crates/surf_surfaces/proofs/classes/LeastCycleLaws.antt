@@ -1,9 +1,6 @@
 -- The least loop that is no boundary is a shortest nonseparating cycle.
-use Rattle.surf_surfaces.proofs.Common.{◌≡◌, ◌≢◌, ℕ, zero, suc, ◌<◌, ◌≤◌, Bool, false, List, [], ◌∷◌, length, get_or, refl, sym, ap, ◌∙◌, arith, inl, inr, AllPairs, cases_Bool, xor, any_below, Graph, IsGraphWalk, edge_between, walk_chain, graph_walk_length, edge_between_is, left_edges, joined_below, Mesh, IsClosed, parity, edge_length, first, walk_length, cells_of, loop_walk, loop_length}
-use Rattle.surf_z2.specs.Below.{number_of}
-use Rattle.surf_z2.proofs.ParityLaws.{xor_pairs, any_below-found, any_below-none}
+use Rattle.surf_surfaces.proofs.Common.{◌≡◌, ◌≢◌, ℕ, zero, suc, ◌<◌, ◌≤◌, Bool, false, List, [], ◌∷◌, length, get_or, refl, sym, ap, ◌∙◌, arith, inl, inr, AllPairs, cases_Bool, xor, any_below, Graph, IsGraphWalk, edge_between, walk_chain, graph_walk_length, edge_between_is, left_edges, joined_below, Mesh, IsClosed, parity, edge_length, first, walk_length, cells_of, loop_walk, loop_length, number_of, xor_pairs, any_below-found, any_below-none, IsSimple}
 use Rattle.surf_graphs.specs.Cycles.{IsOff, IsDistinct, IsSimpleGraphCycle}
-use Rattle.surf_graphs.specs.Loops.{IsSimple}
 use Rattle.surf_graphs.specs.Cells.{Cells, primal, chain_signature, IsNullChain}
 use Rattle.surf_graphs.proofs.Splitting.{nonnull_loop, simple_or_two}
 use Rattle.surf_surfaces.specs.Cycle.{IsSimpleCycle, IsNonseparating, tail}

@@ -1,13 +1,7 @@
 -- Least loop systems and least bases.
-use Rattle.surf_surfaces.proofs.Common.{◌≡◌, ℕ, suc, ◌<◌, List, [], ◌∷◌, length, get_or, map, All, IsPermutation, refl, sym, ap, ◌∙◌, subst, arith, AllByRecursion, map-map, length-map, recursion_from_All, All-from_recursion, Contains-get_or, numbers, Independent, Weighed, SpannedUpToWeight, IsEven, IsShortest, loop, left_edges, Mesh, edge_count, IsSurface, cells_of, loop_walk}
-use Rattle.std.proofs.lemmas.List.Sorted.{IsPermutation-map, IsPermutation-sym, Contains-permutation, length_permutation}
-use Rattle.surf_z2.proofs.Basics.{independence_law}
+use Rattle.surf_surfaces.proofs.Common.{◌≡◌, ℕ, suc, ◌<◌, List, [], ◌∷◌, length, get_or, map, All, IsPermutation, refl, sym, ap, ◌∙◌, subst, arith, AllByRecursion, map-map, length-map, recursion_from_All, All-from_recursion, Contains-get_or, numbers, Independent, Weighed, SpannedUpToWeight, IsEven, IsShortest, loop, left_edges, Mesh, edge_count, IsSurface, cells_of, loop_walk, IsPermutation-map, IsPermutation-sym, Contains-permutation, length_permutation, independence_law, signature_of, signed, loop_chain, primal, Split, IsSplit, IsHeaviest, even_same, IsClosedAt, edge_length, first, parity}
 use Rattle.surf_z2.proofs.Ranks.{spanned_among}
-use Rattle.surf_graphs.specs.Independence.{signature_of, signed, loop_chain}
-use Rattle.surf_graphs.specs.Cells.{primal, Split, IsSplit, IsHeaviest}
-use Rattle.surf_graphs.proofs.Graphs.{even_same}
 use Rattle.surf_graphs.proofs.Independence.{signature_of-same, signatures_from_independent, left_independent, loop_spanned}
-use Rattle.surf_surfaces.specs.Walk.{IsClosedAt, edge_length, first, parity}
 use Rattle.surf_surfaces.specs.Homology.{IsIndependent, IsLoopSystem, IsLoopCount}
 use Rattle.surf_surfaces.specs.Class.{class_of, weighed_walk, LeftLoopsAreLeast, CoveringBasesAreLeast}
 use Rattle.surf_surfaces.proofs.meshes.CellLaws.{surfaces_are_cells}

@@ -1,6 +1,5 @@
 -- Lists of numbers that are compared up to each limit, and so in order place by place.
-use Rattle.surf_surfaces.proofs.Common.{◌≡◌, ℕ, zero, suc, ◌+◌, ◌≤◌, ◌<◌, Bool, true, false, cond, leb, List, [], ◌∷◌, length, map, filter, get_or, take, Contains, refl, ap, ◌∙◌, arith, inl, inr, AllByRecursion, merge, sorted}
-use Rattle.std.proofs.lemmas.Bool.{leb-true, leb-false, le-leb, cases_Bool}
+use Rattle.surf_surfaces.proofs.Common.{◌≡◌, ℕ, zero, suc, ◌+◌, ◌≤◌, ◌<◌, Bool, true, false, cond, leb, List, [], ◌∷◌, length, map, filter, get_or, take, Contains, refl, ap, ◌∙◌, arith, inl, inr, AllByRecursion, merge, sorted, leb-true, leb-false, le-leb, cases_Bool}
 use Rattle.surf_z2.proofs.Counts.{add_up, below, place, sorted as placed, Up, Under, sum_under}
 
 -- ---- the two ways to sort

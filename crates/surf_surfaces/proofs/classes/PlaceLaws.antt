@@ -1,6 +1,5 @@
 -- What is least in total is least place by place.
-use Rattle.surf_surfaces.proofs.Common.{◌≡◌, ℕ, ◌<◌, ◌≤◌, List, [], ◌∷◌, length, All, subst, arith, Mesh, IsSurface, walks as walks_of, loops_at}
-use Rattle.surf_surfaces.specs.Walk.{IsClosedAt, ArePositive}
+use Rattle.surf_surfaces.proofs.Common.{◌≡◌, ℕ, ◌<◌, ◌≤◌, List, [], ◌∷◌, length, All, subst, arith, Mesh, IsSurface, walks as walks_of, loops_at, IsClosedAt, ArePositive}
 use Rattle.surf_surfaces.specs.Homology.{IsIndependent, total, IsLeastLoopSystem, IsLeastBasis}
 use Rattle.surf_surfaces.specs.Places.{AreNoLonger, IsLeastLoopSystemInOrder, IsLeastBasisInOrder}
 use Rattle.surf_surfaces.specs.PlaceLaws.{LoopSystemsAreLeastInOrder, BasesAreLeastInOrder, LeastLoopSystemsAreAlike, LeastBasesAreAlike}

@@ -1,12 +1,7 @@
 -- What is least, by sums of members that are no longer.
-use Rattle.surf_surfaces.proofs.Common.{◌≡◌, ℕ, ◌≤◌, Bool, true, false, cond, leb, List, [], ◌∷◌, ◌++◌, map, filter, refl, sym, ap, ◌∙◌, subst, arith, inl, inr, AllByRecursion, cases_Bool, leb-true, true≢false, length-append, map-append, recursion_from_All, All-from_recursion, All-contains, Decides-is_nothing, Split, IsSplit, signed, Mesh, IsSurface, IsIndependent, cells_of, class_of, weighed_walk}
-use Rattle.surf_z2.specs.Greedy.{spans}
+use Rattle.surf_surfaces.proofs.Common.{◌≡◌, ℕ, ◌≤◌, Bool, true, false, cond, leb, List, [], ◌∷◌, ◌++◌, map, filter, refl, sym, ap, ◌∙◌, subst, arith, inl, inr, AllByRecursion, cases_Bool, leb-true, true≢false, length-append, map-append, recursion_from_All, All-from_recursion, All-contains, Decides-is_nothing, Split, IsSplit, signed, Mesh, IsSurface, IsIndependent, cells_of, class_of, weighed_walk, spans, independence_law, free_filter, free_from_independent, independent_from_free, IsClosed, IsClosedAt, walk_length}
 use Rattle.surf_z2.specs.Space.{numbers, is_nothing, Independent, vectors, up_to, Spanned, SpannedUpToWeight}
-use Rattle.surf_z2.proofs.Basics.{independence_law}
 use Rattle.surf_z2.proofs.Greedy.{spans_law}
-use Rattle.surf_z2.proofs.Ranks.{free_filter}
-use Rattle.surf_z2.proofs.Span.{free_from_independent, independent_from_free}
-use Rattle.surf_surfaces.specs.Walk.{IsClosed, IsClosedAt, walk_length}
 use Rattle.surf_surfaces.specs.Places.{walks_up_to, AreNoLonger, IsShortSum}
 use Rattle.surf_surfaces.specs.PlaceLaws.{LoopSystemsAreLeastByShortSums, BasesAreLeastByShortSums}
 use Rattle.surf_surfaces.proofs.classes.ClassLaws.{some_split, independent_by_classes}

@@ -1,7 +1,6 @@
 -- Independent closed walks, each a sum of walks that are no longer.
-use Rattle.surf_surfaces.proofs.Common.{◌≡◌, ℕ, List, length, map, get_or, All, Contains, sym, ap, ◌∙◌, subst, arith, map-map, recursion_from_All, All-from_recursion, Contains-get_or, Split, IsSplit, signature_of, signed, Mesh, IsSurface, IsClosed, walk_length, IsIndependent, cells_of, class_of, weighed_walk}
+use Rattle.surf_surfaces.proofs.Common.{◌≡◌, ℕ, List, length, map, get_or, All, Contains, sym, ap, ◌∙◌, subst, arith, map-map, recursion_from_All, All-from_recursion, Contains-get_or, Split, IsSplit, signature_of, signed, Mesh, IsSurface, IsClosed, walk_length, IsIndependent, cells_of, class_of, weighed_walk, below}
 use Rattle.surf_z2.specs.Space.{numbers, Independent, Weighed, weights, vectors, up_to, SpannedUpToWeight}
-use Rattle.surf_z2.proofs.Counts.{below}
 use Rattle.surf_z2.proofs.Ranks.{rank_law}
 use Rattle.surf_surfaces.specs.Places.{count_up_to, AreNoLonger}
 use Rattle.surf_surfaces.proofs.classes.ClassLaws.{independent_by_classes}

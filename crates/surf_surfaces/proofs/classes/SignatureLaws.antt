@@ -1,6 +1,5 @@
 -- The signature of a walk is its class.
-use Rattle.surf_surfaces.proofs.Common.{◌≡◌, ℕ, ◌&&◌, eqb, List, [], ◌∷◌, length, map, bit_xor, sym, ap, ◌∙◌, Contains, AllByRecursion, recursion_from_All, odd, numbers, sum_of, same_from, Split, signature, chain_signature, signature_of, signature_of-linear, Mesh, pair_of, pair_eq, steps, edges, edge_count, ends, edge_number, cells_of}
-use Rattle.surf_z2.proofs.ParityLaws.{odd_below-same, odd_below-one}
+use Rattle.surf_surfaces.proofs.Common.{◌≡◌, ℕ, ◌&&◌, eqb, List, [], ◌∷◌, length, map, bit_xor, sym, ap, ◌∙◌, Contains, AllByRecursion, recursion_from_All, odd, numbers, sum_of, same_from, Split, signature, chain_signature, signature_of, signature_of-linear, Mesh, pair_of, pair_eq, steps, edges, edge_count, ends, edge_number, cells_of, odd_below-same, odd_below-one}
 use Rattle.surf_surfaces.specs.Signature.{edge_signature, SignaturesAreClasses, NullBySignature}
 use Rattle.surf_surfaces.proofs.meshes.EdgeLaws.{ends-eq, place_of-among, among-contains}
 use Rattle.surf_surfaces.proofs.classes.ClassLaws.{null_by_class}

@@ -1,8 +1,5 @@
 -- Boundaries, and the parities of walks, add up.
-use Rattle.surf_surfaces.proofs.Common.{◌≡◌, ℕ, List, [], ◌∷◌, ◌++◌, map, refl, sym, ap, ◌∙◌, xor, Mesh, pair_of, pair_eq, ends, faces_of, last_from, parity}
-use Rattle.surf_z2.specs.Space.{chains, sum_of}
-use Rattle.surf_z2.proofs.ParityLaws.{xor_assoc, xor_pairs}
-use Rattle.surf_surfaces.specs.Homology.{boundary, IsBoundary, total_parity}
+use Rattle.surf_surfaces.proofs.Common.{◌≡◌, ℕ, List, [], ◌∷◌, ◌++◌, map, refl, sym, ap, ◌∙◌, xor, Mesh, pair_of, pair_eq, ends, faces_of, last_from, parity, chains, sum_of, xor_assoc, xor_pairs, boundary, IsBoundary, total_parity}
 use Rattle.surf_surfaces.proofs.meshes.CellLaws.{surfaces_are_cells}
 use Rattle.surf_surfaces.specs.Laws.{OnlyAllOrNoneIsClosed, BoundariesAdd, ParitiesAdd, TotalsAreSums}
 

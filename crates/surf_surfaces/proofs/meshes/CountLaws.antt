@@ -1,16 +1,11 @@
 -- Laws of counts: each side of a face is one edge, each corner is on two sides, and the faces' sizes add up to twice
 -- the edges.
-use Rattle.surf_surfaces.proofs.Common.{◌≡◌, ℕ, zero, suc, ◌+◌, ◌*◌, ◌<◌, Bool, true, false, ◌&&◌, ◌||◌, cond, eqb, List, [], ◌∷◌, ◌++◌, length, get_or, map, refl, sym, ap, ◌∙◌, arith, inl, inr, Contains, ◌≢◌, eq-eqb, ne_eqb, eqb-true, cases_Bool, length-append, get_or_default, All-from_recursion, recursion_from_All, All-from_get_or, Mesh, IsMesh, IsFace, steps_from, sides, pair_of, pair_eq, among, edges, place_of}
-use Rattle.std.specs.List.{AllByRecursion, count_by, sum_by}
-use Rattle.std.proofs.lemmas.List.Sums.{sum_by-cons, sum_by-append}
-use Rattle.surf_z2.specs.Parity.{sum_below, count_below}
-use Rattle.surf_z2.proofs.ParityLaws.{and-true, and_comm}
+use Rattle.surf_surfaces.proofs.Common.{◌≡◌, ℕ, zero, suc, ◌+◌, ◌*◌, ◌<◌, Bool, true, false, ◌&&◌, ◌||◌, cond, eqb, List, [], ◌∷◌, ◌++◌, length, get_or, map, refl, sym, ap, ◌∙◌, arith, inl, inr, Contains, ◌≢◌, eq-eqb, ne_eqb, eqb-true, cases_Bool, length-append, get_or_default, All-from_recursion, recursion_from_All, All-from_get_or, Mesh, IsMesh, IsFace, steps_from, sides, pair_of, pair_eq, among, edges, place_of, AllByRecursion, count_by, sum_by, sum_by-cons, sum_by-append, sum_below, count_below, and-true, and_comm, face_count, edge_count, face_at, ends, has_side, touches, places_from, faces_of, HasCorner, IsSurface}
 use Rattle.surf_z2.proofs.Sums.{sum_below-same, sum_below-add, sum_below-const, sum_below-swap, sum_below-double, count_below-one}
 use Rattle.surf_surfaces.proofs.meshes.PairLaws.{pair_eq-true}
 use Rattle.surf_surfaces.proofs.meshes.EdgeLaws.{ends-eq, place_of-among}
 use Rattle.surf_surfaces.proofs.meshes.FaceLaws.{Distinct, Once, distinct_from_AllPairs, face_once, has_side-among, touches-pair_of, IsStepBelow, face_steps}
 use Rattle.surf_surfaces.proofs.meshes.SurfaceLaws.{sides_are_edges, two_faces_of}
-use Rattle.surf_surfaces.specs.Surface.{face_count, edge_count, face_at, ends, has_side, touches, places_from, faces_of, HasCorner, IsSurface}
 
 pub count_cons : {X : Type 0} (test : X → Bool) (x : X) (xs : List X) →
     count_by test (x ∷ xs) ≡ cond (test x) 1 0 + count_by test xs

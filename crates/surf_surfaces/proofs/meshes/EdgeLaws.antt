@@ -1,8 +1,5 @@
 -- Laws of edges: their order, which pairs they are, and their numbers.
-use Rattle.surf_surfaces.proofs.Common.{◌≡◌, ℕ, zero, suc, ◌+◌, ◌<◌, Bool, true, false, ◌&&◌, ◌||◌, eqb, List, [], ◌∷◌, ◌++◌, length, get_or, map, refl, sym, ap, ◌∙◌, arith, inl, inr, AllPairs, Contains, AllByRecursion, list_any, flat_map, eq-eqb, ne_eqb, cases_eq, cases_Bool, false_from_ne_true, or_cases, or_right, or_left, true≢false, All-from_recursion, recursion_from_All, odd_below, edge_count, ends, has_side, place_of}
-use Rattle.std.proofs.lemmas.List.Sums.{position_or_len_is}
-use Rattle.surf_surfaces.specs.Mesh.{Mesh, sides, pair_of, pair_eq, pair_lt, insert_pair, sorted_pairs, among, edges}
-use Rattle.surf_z2.proofs.ParityLaws.{odd_below-one, odd_below-same}
+use Rattle.surf_surfaces.proofs.Common.{◌≡◌, ℕ, zero, suc, ◌+◌, ◌<◌, Bool, true, false, ◌&&◌, ◌||◌, eqb, List, [], ◌∷◌, ◌++◌, length, get_or, map, refl, sym, ap, ◌∙◌, arith, inl, inr, AllPairs, Contains, AllByRecursion, list_any, flat_map, eq-eqb, ne_eqb, cases_eq, cases_Bool, false_from_ne_true, or_cases, or_right, or_left, true≢false, All-from_recursion, recursion_from_All, odd_below, edge_count, ends, has_side, place_of, position_or_len_is, Mesh, sides, pair_of, pair_eq, pair_lt, insert_pair, sorted_pairs, among, edges, odd_below-one, odd_below-same}
 use Rattle.surf_surfaces.proofs.meshes.PairLaws.{Rising, sorted_pairs-rise, pair_eq-true, pair_eq-self, pair_eq-same, pair_eq-other, pair_eq_comm, pair_lt-irreflexive, pair_lt-trans}
 
 or_assoc : (a b c : Bool) → ((a || b) || c) ≡ (a || (b || c))

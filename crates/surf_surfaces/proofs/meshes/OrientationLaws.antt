@@ -1,8 +1,6 @@
 -- A one-sided chain excludes every turning.
-use Rattle.surf_surfaces.proofs.Common.{◌≡◌, ◌≢◌, ℕ, ◌<◌, Bool, true, false, not, ◌||◌, eqb, List, [], ◌∷◌, length, refl, sym, ap, ◌∙◌, arith, inl, inr, subst, eqb-true, cases_lt, cases_Bool, lt-ltb, le-ltb, or_cases, true≢false, false_from_ne_true, xor, odd, Mesh, IsFace, pair_of, edges, place_of}
-use Rattle.surf_surfaces.specs.Surface.{face_at, has_side, runs, runs_turned, faces_of, HasEdge, IsSurface, IsOrientation}
+use Rattle.surf_surfaces.proofs.Common.{◌≡◌, ◌≢◌, ℕ, ◌<◌, Bool, true, false, not, ◌||◌, eqb, List, [], ◌∷◌, length, refl, sym, ap, ◌∙◌, arith, inl, inr, subst, eqb-true, cases_lt, cases_Bool, lt-ltb, le-ltb, or_cases, true≢false, false_from_ne_true, xor, odd, Mesh, IsFace, pair_of, edges, place_of, face_at, has_side, runs, runs_turned, faces_of, HasEdge, IsSurface, IsOrientation, xor-same, xor_meet}
 use Rattle.surf_surfaces.specs.Turning.{Link, next_face, AreLinked, same_ways, OneSidedChainsExcludeOrientations}
-use Rattle.surf_z2.proofs.ParityLaws.{xor-same, xor_meet}
 use Rattle.surf_surfaces.proofs.meshes.EdgeLaws.{list_any_from, among-edges, place_of-among}
 use Rattle.surf_surfaces.proofs.meshes.SurfaceLaws.{two_faces_of, edge_below}
 use Rattle.surf_surfaces.proofs.meshes.RunLaws.{one_way, some_way}

@@ -1,6 +1,5 @@
 -- Laws of unordered pairs, of their order, and of sorted lists of them.
-use Rattle.surf_surfaces.proofs.Common.{◌≡◌, ℕ, ◌<◌, true, false, ◌&&◌, eqb, ltb, List, [], ◌∷◌, ◌⊎◌, refl, sym, ap, ◌∙◌, arith, inl, inr, AllByRecursion, eq-eqb, eqb-true, ltb-true, lt-ltb, le-ltb, cases_order, cases_lt, cases_Bool, and_parts, false_from_ne_true, or_cases, or_right, true≢false}
-use Rattle.surf_surfaces.specs.Mesh.{pair_of, pair_eq, pair_lt, insert_pair, sorted_pairs}
+use Rattle.surf_surfaces.proofs.Common.{◌≡◌, ℕ, ◌<◌, true, false, ◌&&◌, eqb, ltb, List, [], ◌∷◌, ◌⊎◌, refl, sym, ap, ◌∙◌, arith, inl, inr, AllByRecursion, eq-eqb, eqb-true, ltb-true, lt-ltb, le-ltb, cases_order, cases_lt, cases_Bool, and_parts, false_from_ne_true, or_cases, or_right, true≢false, pair_of, pair_eq, pair_lt, insert_pair, sorted_pairs}
 
 pub pair_same : (p q : ℕ × ℕ) → p.0 ≡ q.0 → p.1 ≡ q.1 → p ≡ q
 pair_same p q a b = λ i. (a i, b i)

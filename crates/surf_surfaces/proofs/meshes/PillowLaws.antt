@@ -1,7 +1,6 @@
 -- The smallest surface is one.
-use Rattle.surf_surfaces.proofs.Common.{◌≡◌, ℕ, ◌<◌, false, zero, suc, refl, arith, length, All-from_recursion, Joined, here, over, IsMesh, IsFace, pair, IsLoopCount}
+use Rattle.surf_surfaces.proofs.Common.{◌≡◌, ℕ, ◌<◌, false, zero, suc, refl, arith, length, All-from_recursion, Joined, here, over, IsMesh, IsFace, pair, IsLoopCount, ends, faces_with, HasCorner, HasEdge, ShareAt, HasOneFan, IsConnected, IsSurface, IsOrientation, IsOrientable}
 use Rattle.surf_surfaces.specs.Pillow.{pillow}
-use Rattle.surf_surfaces.specs.Surface.{ends, faces_with, HasCorner, HasEdge, ShareAt, HasOneFan, IsConnected, IsSurface, IsOrientation, IsOrientable}
 use Rattle.surf_surfaces.proofs.meshes.SmallFaces.{triangle}
 
 pillow_is_mesh : IsMesh pillow

@@ -1,10 +1,8 @@
 -- Laws of the faces of an edge, and of the edges of a mesh.
-use Rattle.surf_surfaces.proofs.Common.{◌≡◌, ◌≢◌, ℕ, zero, suc, ◌+◌, ◌<◌, Bool, true, false, ◌&&◌, ◌||◌, eqb, List, [], ◌∷◌, length, get_or, refl, sym, ap, ◌∙◌, arith, inl, inr, AllPairs, Contains, ◌↔◌, AllByRecursion, list_any, eq-eqb, ne_eqb, eqb-true, cases_eq, cases_Bool, or_right, or_left, true≢false, lt-ltb, le-ltb, cases_lt, All-from_recursion, recursion_from_All, get_or_past, Mesh, IsMesh, IsFace, sides, pair_of, pair_eq, among, edges, xor, odd_below}
-use Rattle.surf_z2.proofs.ParityLaws.{or-xor, xor-and, odd_below-same, odd_below-xor, odd_below-one}
+use Rattle.surf_surfaces.proofs.Common.{◌≡◌, ◌≢◌, ℕ, zero, suc, ◌+◌, ◌<◌, Bool, true, false, ◌&&◌, ◌||◌, eqb, List, [], ◌∷◌, length, get_or, refl, sym, ap, ◌∙◌, arith, inl, inr, AllPairs, Contains, ◌↔◌, AllByRecursion, list_any, eq-eqb, ne_eqb, eqb-true, cases_eq, cases_Bool, or_right, or_left, true≢false, lt-ltb, le-ltb, cases_lt, All-from_recursion, recursion_from_All, get_or_past, Mesh, IsMesh, IsFace, sides, pair_of, pair_eq, among, edges, xor, odd_below, or-xor, xor-and, odd_below-same, odd_below-xor, odd_below-one, face_count, edge_count, face_at, ends, has_side, places_from, faces_with, faces_of, HasEdge, IsSurface}
 use Rattle.surf_surfaces.proofs.meshes.PairLaws.{pair_eq-true, pair_eq-self}
 use Rattle.surf_surfaces.proofs.meshes.EdgeLaws.{among-edges, list_any_at, list_any_from}
 use Rattle.surf_surfaces.proofs.meshes.FaceLaws.{IsStepBelow, face_steps}
-use Rattle.surf_surfaces.specs.Surface.{face_count, edge_count, face_at, ends, has_side, places_from, faces_with, faces_of, HasEdge, IsSurface}
 
 -- by recursion: each number is below all later ones
 abbrev pub Climbing : List ℕ → Type 0

@@ -1,8 +1,6 @@
 -- Trees that are those of shortest walks as far as a distance.
 use Rattle.std.proofs.Common.{◌≡◌, ◌≢◌, ℕ, zero, suc, ◌+◌, ◌<◌, ◌≤◌, List, [], ◌∷◌, ◌++◌, ◌⊎◌, refl, sym, ap, ◌∙◌, arith, inl, inr, eqb, eq-eqb, ne_eqb}
-use Rattle.surf_surfaces.proofs.Common.{cases_eq, xor, Mesh, ends, IsSurface, edge_length, edge_number, ArePositive, IsShortestTree}
-use Rattle.surf_graphs.specs.Loops.{way_down, way_up}
-use Rattle.surf_graphs.specs.Trees.{Tree, on_way}
+use Rattle.surf_surfaces.proofs.Common.{cases_eq, xor, Mesh, ends, IsSurface, edge_length, edge_number, ArePositive, IsShortestTree, way_down, way_up, Tree, on_way}
 use Rattle.surf_surfaces.specs.FewBases.{IsNearTree, HasNearLoops, NearTreesHaveLoops}
 use Rattle.surf_surfaces.proofs.meshes.CellLaws.{surfaces_are_cells}
 use Rattle.surf_surfaces.proofs.walks.ShortestTreeLaws.{shortest_is_tree}

@@ -1,10 +1,8 @@
 -- Which vertices are on shortest walks, and the table of the least of them.
 use Rattle.std.proofs.Common.{◌≡◌, ◌≢◌, ℕ, zero, suc, ◌+◌, ◌<◌, ◌≤◌, true, List, sym, ap, ◌∙◌, subst, arith, inl, inr, eqb-true, eq-eqb, Contains}
-use Rattle.surf_surfaces.proofs.Common.{cases_eq, primal, Tree, joins, joins_turned, Mesh, pair, edges, edge_count, ends, IsSurface, edge_length, edge_number, ArePositive, cells_of, AreShortestTrees}
+use Rattle.surf_surfaces.proofs.Common.{cases_eq, primal, Tree, joins, joins_turned, Mesh, pair, edges, edge_count, ends, IsSurface, edge_length, edge_number, ArePositive, cells_of, AreShortestTrees, step_short, IsTight}
 use Rattle.surf_z2.proofs.ParityLaws.{least_below-found, least_below-least}
-use Rattle.surf_graphs.proofs.Lengths.{step_short}
 use Rattle.surf_graphs.proofs.Through.{none_here, triangle}
-use Rattle.surf_surfaces.specs.ShortestTree.{IsTight}
 use Rattle.surf_surfaces.specs.FewBases.{is_on_way, least_on_way, IsLeastTable, LeastTablesAreLeast}
 use Rattle.surf_surfaces.proofs.meshes.CellLaws.{surfaces_are_cells, joins_from}
 use Rattle.surf_surfaces.proofs.meshes.EdgeLaws.{place_of-among, among-contains, contains_from_among}

@@ -1,8 +1,5 @@
 -- Laws of the tree of shortest walks.
-use Rattle.surf_surfaces.proofs.Common.{◌≡◌, ◌≢◌, ℕ, ◌+◌, ◌<◌, ◌≤◌, true, List, [], ◌∷◌, ◌++◌, refl, sym, ap, ◌∙◌, subst, arith, Contains, Graph, joins, IsJoined, edge_between, IsGraphWalk, graph_walk_length, primal, Tree, IsTree, IsShortest, joins_turned, joins_ends, joined_below, Mesh, pair, edges, edge_count, ends, IsSurface, edge_length, edge_number, place_of, walk_length, ArePositive, cells_of}
-use Rattle.surf_graphs.specs.Loops.{IsSimple}
-use Rattle.surf_graphs.proofs.Graphs.{edge_between_is, walk-append}
-use Rattle.surf_surfaces.specs.Distance.{LeadsFrom, IsDistance}
+use Rattle.surf_surfaces.proofs.Common.{◌≡◌, ◌≢◌, ℕ, ◌+◌, ◌<◌, ◌≤◌, true, List, [], ◌∷◌, ◌++◌, refl, sym, ap, ◌∙◌, subst, arith, Contains, Graph, joins, IsJoined, edge_between, IsGraphWalk, graph_walk_length, primal, Tree, IsTree, IsShortest, joins_turned, joins_ends, joined_below, Mesh, pair, edges, edge_count, ends, IsSurface, edge_length, edge_number, place_of, walk_length, ArePositive, cells_of, IsSimple, edge_between_is, walk-append, LeadsFrom, IsDistance}
 use Rattle.surf_surfaces.specs.ShortestTree.{IsTight, IsShortestTree, ShortestTreesAreOne}
 use Rattle.surf_surfaces.proofs.meshes.EdgeLaws.{place_of-among, among-contains}
 use Rattle.surf_surfaces.proofs.meshes.CellLaws.{surfaces_are_cells, joins_from}

@@ -1,9 +1,6 @@
 -- The shortest of what is least is a shortest closed walk that is not null.
-use Rattle.surf_surfaces.proofs.Common.{◌≡◌, ℕ, zero, suc, ◌<◌, ◌≤◌, Bool, true, false, leb, List, [], ◌∷◌, length, map, get_or, Contains, refl, sym, ap, ◌∙◌, subst, arith, AllByRecursion, map-map, recursion_from_All, All-from_recursion, All-contains, chosen, sorted, Sorted, xor-false, IsGraphWalk, walk_chain, graph_walk_length, joined_below, Mesh, IsSurface, cells_of, Loop, comes_before, walks as walks_of, loops_at, candidates}
+use Rattle.surf_surfaces.proofs.Common.{◌≡◌, ℕ, zero, suc, ◌<◌, ◌≤◌, Bool, true, false, leb, List, [], ◌∷◌, length, map, get_or, Contains, refl, sym, ap, ◌∙◌, subst, arith, AllByRecursion, map-map, recursion_from_All, All-from_recursion, All-contains, chosen, sorted, Sorted, xor-false, IsGraphWalk, walk_chain, graph_walk_length, joined_below, Mesh, IsSurface, cells_of, Loop, comes_before, walks as walks_of, loops_at, candidates, primal, IsNullChain, IsClosed, IsClosedAt, edge_length, parity, walk_length, ArePositive, IsNull, IsIndependent, IsLeastLoopSystem, total_parity}
 use Rattle.surf_z2.proofs.Counts.{Up}
-use Rattle.surf_graphs.specs.Cells.{primal, IsNullChain}
-use Rattle.surf_surfaces.specs.Walk.{IsClosed, IsClosedAt, edge_length, parity, walk_length, ArePositive}
-use Rattle.surf_surfaces.specs.Homology.{IsNull, IsIndependent, IsLeastLoopSystem, total_parity}
 use Rattle.surf_surfaces.specs.Cycle.{IsSimpleCycle, IsNonseparating, IsShortestNonseparating}
 use Rattle.surf_surfaces.specs.Places.{lengths_in_order, IsShortestOf, IsShortestNotNull}
 use Rattle.surf_surfaces.specs.PlaceLaws.{ChosenLoopsAreInOrder, ChosenLoopsAreLeastInOrder, ChosenBasisIsInOrder, ChosenBasisIsLeastInOrder, ShortestLoopsAreShortestNotNull, ShortestOfBasesAreShortestNotNull, ShortestNotNullIsNonseparating, LeastBasesMeasureShortest, BasesHaveShortest, FirstLoopIsShortestNotNull, FirstOfBasisIsShortestNotNull}

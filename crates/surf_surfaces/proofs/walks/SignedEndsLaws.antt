@@ -1,9 +1,7 @@
 -- The ends of edges whose signatures aren't empty meet each closed walk that isn't null.
 use Rattle.std.proofs.Common.{◌≡◌, ℕ, ◌<◌, Bool, true, false, ◌&&◌, not, eqb, [], ◌∷◌, length, refl, sym, ◌∙◌, arith, ne_eqb, inl, inr}
-use Rattle.std.proofs.lemmas.Bool.{cases_eq, cases_Bool, and_parts, and_from, false≢true, not-true, not_from_false, eqb-false}
+use Rattle.surf_surfaces.proofs.Common.{cases_eq, cases_Bool, and_parts, and_from, false≢true, not-true, not_from_false, eqb-false, odd_below-none, any_below-found, any_below-none, any_below, primal, Split, signature, chain_signature, walk_chain, signature_of, signature_of-same, Mesh, edge_count, ends, parity, cells_of, edge_signature}
 use Rattle.surf_z2.proofs.Below.{same_from, same_below, number_of-none}
-use Rattle.surf_z2.proofs.ParityLaws.{odd_below-none, any_below-found, any_below-none}
-use Rattle.surf_surfaces.proofs.Common.{any_below, primal, Split, signature, chain_signature, walk_chain, signature_of, signature_of-same, Mesh, edge_count, ends, parity, cells_of, edge_signature}
 use Rattle.surf_graphs.proofs.Walks.{walk_has_ends}
 use Rattle.surf_surfaces.specs.FewBases.{SignedEndsMeetAll}
 use Rattle.surf_surfaces.proofs.classes.ClassLaws.{null_by_class}

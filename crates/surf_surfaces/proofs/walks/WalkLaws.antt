@@ -1,12 +1,11 @@
 -- Laws of walks: any two vertices of a surface are joined by one.
-use Rattle.surf_surfaces.proofs.Common.{◌≡◌, ℕ, ◌<◌, true, List, [], ◌∷◌, ◌++◌, get_or, refl, ap, ◌∙◌, arith, Contains, All, AllByRecursion, Joined, here, over, Mesh, IsMesh, IsFace, steps_from, sides, pair, pair_of, pair_eq, among, edges, face_at, has_side, HasCorner, Share, IsSurface, last_from}
+use Rattle.surf_surfaces.proofs.Common.{◌≡◌, ℕ, ◌<◌, true, List, [], ◌∷◌, ◌++◌, get_or, refl, ap, ◌∙◌, arith, Contains, All, AllByRecursion, Joined, here, over, Mesh, IsMesh, IsFace, steps_from, sides, pair, pair_of, pair_eq, among, edges, face_at, has_side, HasCorner, Share, IsSurface, last_from, LeadsFrom}
 use Rattle.std.proofs.lemmas.List.Elements.{All-from_recursion, recursion_from_All, All-contains, All-contains_itself}
 use Rattle.surf_surfaces.proofs.meshes.JoinedLaws.{joined_trans, joined_sym}
 use Rattle.surf_surfaces.proofs.meshes.PairLaws.{pair_eq-true, pair_of_both}
 use Rattle.surf_surfaces.proofs.meshes.EdgeLaws.{contains_from_among, list_any_at}
 use Rattle.surf_surfaces.proofs.meshes.FaceLaws.{all_push, IsStepBelow, face_steps, pair_comm}
 use Rattle.surf_surfaces.proofs.meshes.SurfaceLaws.{sides_are_edges}
-use Rattle.surf_surfaces.specs.Distance.{LeadsFrom}
 
 -- two vertices joined by an edge
 abbrev pub IsStep : Mesh → ℕ → ℕ → Type 0

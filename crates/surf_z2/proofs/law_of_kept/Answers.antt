@@ -1,5 +1,4 @@
-use Rattle.std.proofs.Common.{ℕ}
-use Rattle.surf_z2.specs.Space.{Weighed, numbers, is_nothing}
+use Rattle.surf_z2.proofs.Common.{ℕ, Weighed, numbers, is_nothing}
 use Rattle.surf_z2.proofs.Numbers.{Decides-is_nothing}
 use Rattle.surf_z2.proofs.Kept as Kept
 use Rattle.surf_z2.proofs.law_of_kept.Goals as goal

@@ -1,6 +1,4 @@
-use Rattle.std.proofs.Common.{ℕ}
-use Rattle.surf_z2.specs.Space.{numbers, is_nothing}
-use Rattle.surf_z2.specs.Space.{Weighed}
+use Rattle.surf_z2.proofs.Common.{ℕ, numbers, is_nothing, Weighed}
 use Rattle.surf_z2.proofs.Numbers.{Decides-is_nothing}
 use Rattle.surf_z2.proofs.Least as Least
 use Rattle.surf_z2.proofs.law_of_least.Goals as goal

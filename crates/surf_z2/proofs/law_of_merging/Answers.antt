@@ -1,6 +1,4 @@
-use Rattle.std.proofs.Common.{ℕ}
-use Rattle.surf_z2.specs.Space.{Weighed}
-use Rattle.surf_z2.specs.Order.{is_lighter}
+use Rattle.surf_z2.proofs.Common.{ℕ, Weighed, is_lighter}
 use Rattle.surf_z2.proofs.Merge as Merge
 use Rattle.surf_z2.proofs.law_of_merging.Goals as goal
 

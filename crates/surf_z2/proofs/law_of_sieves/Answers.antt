@@ -1,5 +1,4 @@
-use Rattle.std.proofs.Common.{ℕ}
-use Rattle.surf_z2.specs.Space.{numbers}
+use Rattle.surf_z2.proofs.Common.{ℕ, numbers}
 use Rattle.surf_z2.specs.Sieve.{Row, has}
 use Rattle.surf_z2.proofs.Numbers.{has-xor}
 use Rattle.surf_z2.proofs.Sieve as Sieve

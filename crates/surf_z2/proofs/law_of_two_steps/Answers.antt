@@ -1,7 +1,4 @@
-use Rattle.std.proofs.Common.{ℕ}
-use Rattle.surf_z2.specs.Space.{numbers, is_nothing}
-use Rattle.surf_z2.specs.Space.{Weighed}
-use Rattle.surf_z2.specs.Order.{is_lighter}
+use Rattle.surf_z2.proofs.Common.{ℕ, numbers, is_nothing, Weighed, is_lighter}
 use Rattle.surf_z2.proofs.Numbers.{Decides-is_nothing}
 use Rattle.surf_z2.proofs.Greedy as Greedy
 use Rattle.surf_z2.proofs.Merge as Merge

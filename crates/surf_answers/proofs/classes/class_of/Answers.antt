@@ -1,5 +1,4 @@
-use Rattle.surf_surfaces.proofs.Common.{ℕ, List, subst, err_from_is_err_and}
-use Rattle.std.specs.Option.{option_copied}
+use Rattle.surf_surfaces.proofs.Common.{ℕ, List, subst, err_from_is_err_and, option_copied}
 use Rattle.surf_class.specs.Seen.{seen}
 use Rattle.surf_class.specs.Texts.{evidence_text}
 use Rattle.surf_text.specs.Pages.{PageState, Stops}

@@ -1,5 +1,4 @@
-use Rattle.std.proofs.Common.{sym, subst, Result, Ok, Err, IfOk}
-use Rattle.std.specs.Option.{option_copied}
+use Rattle.surf_surfaces.proofs.Common.{sym, subst, Result, Ok, Err, IfOk, option_copied}
 use Rattle.surf_classes.specs.Evidence.{IsChosen, IsClassEvidence, joint_parity}
 use Rattle.surf_class.specs.Seen.{seen}
 use Rattle.surf_cotree.specs.Tables.{CotreeTables, split_with}

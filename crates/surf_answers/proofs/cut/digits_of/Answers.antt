@@ -1,5 +1,4 @@
-use Rattle.std.proofs.Common.{rules}
-use Rattle.std.proofs.lemmas.Fmt.{length-decimal-le}
+use Rattle.surf_surfaces.proofs.Common.{rules, length-decimal-le}
 use Rattle.surf_answers.proofs.cut.digits_of.Goals as goal
 
 pub put_whole-requires : goal.put_whole-requires

@@ -1,5 +1,4 @@
-use Rattle.surf_surfaces.proofs.Common.{◌*◌, subst, sym, arith, ℕ, IsLoopCount}
-use Rattle.std.proofs.lemmas.Grind.{common_steps}
+use Rattle.surf_surfaces.proofs.Common.{◌*◌, subst, sym, arith, ℕ, IsLoopCount, common_steps}
 use Rattle.surf_check.specs.Growth.{flag_of}
 use Rattle.surf_orientation.proofs.GenusLaws.{genus_is_loop_count}
 use Rattle.surf_answers.specs.Info.{HasGenus}

@@ -1,5 +1,4 @@
-use Rattle.std.proofs.Common.{◌/◌, arith}
-use Rattle.std.proofs.lemmas.Grind.{common_steps}
+use Rattle.surf_surfaces.proofs.Common.{◌/◌, arith, common_steps}
 use Rattle.surf_orientation.proofs.GenusLaws.{genus_is_loop_count}
 use Rattle.surf_answers.specs.Info.{HasGenus}
 use Rattle.surf_answers.proofs.Saying.{ends_as}

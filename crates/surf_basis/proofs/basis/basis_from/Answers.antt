@@ -1,6 +1,5 @@
-use Rattle.surf_surfaces.proofs.Common.{◌≡◌, ◌<◌, ◌≤◌, ◌^◌, ℕ, List, length, All, sym, ap, ◌∙◌, subst, arith, IfOk-weaker, edge_count, IsSurface, ArePositive}
+use Rattle.surf_surfaces.proofs.Common.{◌≡◌, ◌<◌, ◌≤◌, ◌^◌, ℕ, List, length, All, sym, ap, ◌∙◌, subst, arith, IfOk-weaker, edge_count, IsSurface, ArePositive, AreBases}
 use Rattle.surf_lengths.proofs.Positive.{lengths_positive}
-use Rattle.surf_surfaces.specs.FewBases.{AreBases}
 use Rattle.surf_choice.specs.Candidates.{Chosen}
 use Rattle.surf_search.specs.Walks.{IsMeasured}
 use Rattle.surf_basis.specs.Candidates.{AreCyclesOf}

@@ -1,5 +1,4 @@
-use Rattle.surf_surfaces.proofs.Common.{◌∙◌, ap, subst, IfSome, IfOk-weaker, IsLoopCount}
-use Rattle.surf_surfaces.specs.ChoiceLaws.{LeastSimpleBasis}
+use Rattle.surf_surfaces.proofs.Common.{◌∙◌, ap, subst, IfSome, IfOk-weaker, IsLoopCount, LeastSimpleBasis}
 use Rattle.surf_lengths.proofs.Positive.{lengths_positive}
 use Rattle.surf_cotree.specs.Tables.{CotreeTables}
 use Rattle.surf_basis.specs.Cycles.{first_of, as_loops, IsTheBasis, IsFirstCandidate, IsShortestCycle}

@@ -1,5 +1,4 @@
-use Rattle.std.proofs.Common.{◌≡◌, ◌<◌, ℕ, length, refl, sym, ap, ◌∙◌, subst, arith, true, false, slice_set}
-use Rattle.surf_surfaces.proofs.Common.{slice_index_or, length-set}
+use Rattle.surf_surfaces.proofs.Common.{◌≡◌, ◌<◌, ℕ, length, refl, sym, ap, ◌∙◌, subst, arith, true, false, slice_set, slice_index_or, length-set}
 use Rattle.surf_tree.specs.Tables.{tree_of}
 use Rattle.surf_search.specs.Passing.{is_marked}
 use Rattle.surf_basis.proofs.OnCut.{IsClimbing, GoesOn, steps_left, climb_begun, climb_more, climb_done, climb_falls, goes_up, goes_no_more}

@@ -1,5 +1,4 @@
-use Rattle.surf_surfaces.proofs.Common.{◌≡◌, ℕ, List, Option, Some, None, length, true, inl, sym, ap, ◌∙◌, subst, false≢true, IfOk-weaker, MeetsAll}
-use Rattle.std.specs.Option.{is_some}
+use Rattle.surf_surfaces.proofs.Common.{◌≡◌, ℕ, List, Option, Some, None, length, true, inl, sym, ap, ◌∙◌, subst, false≢true, IfOk-weaker, MeetsAll, is_some}
 use Rattle.surf_tree.specs.Queues.{AreEven, IsEvenness}
 use Rattle.surf_cotree.specs.Tables.{CotreeTables}
 use Rattle.surf_basis.specs.Cut.{AreCutVertices, AreToSearch}

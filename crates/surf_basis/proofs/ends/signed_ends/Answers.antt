@@ -1,5 +1,4 @@
-use Rattle.surf_surfaces.proofs.Common.{◌≡◌, ℕ, Bool, List, false, replicate, sym, ap, ◌∙◌, subst, inl, inr, arith, IsTrue, slice_index, get_or-replicate, edge_count}
-use Rattle.surf_surfaces.specs.Degrees.{AreDegreesTo, degree_in}
+use Rattle.surf_surfaces.proofs.Common.{◌≡◌, ℕ, Bool, List, false, replicate, sym, ap, ◌∙◌, subst, inl, inr, arith, IsTrue, slice_index, get_or-replicate, edge_count, AreDegreesTo, degree_in}
 use Rattle.surf_search.specs.Marks.{is_signed}
 use Rattle.surf_basis.specs.Ends.{IsBusierEnd}
 use Rattle.surf_search.specs.Passing.{is_marked}

@@ -1,8 +1,6 @@
-use Rattle.std.proofs.Common.{◌≡◌, ◌<◌, ◌≤◌, ◌^◌, [], ◌+◌, ◌*◌, ◌-◌, true, false, cond, bit_xor, drop, take, ap, sym, ◌∙◌, subst, get_or, arith}
+use Rattle.surf_z2.proofs.Common.{◌≡◌, ◌<◌, ◌≤◌, ◌^◌, [], ◌+◌, ◌*◌, ◌-◌, true, false, cond, bit_xor, drop, take, ap, sym, ◌∙◌, subst, get_or, arith, has, number}
 use Rattle.std.specs.Int.Bits.{xor_comm}
 use Rattle.std.proofs.Math.ListN.{drop_of_length-le}
-use Rattle.surf_z2.specs.Sieve.{has}
-use Rattle.surf_z2.specs.Words.{number}
 use Rattle.surf_bits.specs.Rows.{left_of, sieve_rows}
 use Rattle.surf_bits.proofs.Rows.{left_of_more, left_small, rows-length}
 use Rattle.surf_bits.proofs.sieve.left_of.Goals as goal

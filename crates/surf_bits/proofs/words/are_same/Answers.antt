@@ -1,7 +1,5 @@
-use Rattle.std.proofs.Common.{ℕ, ◌≡◌, ◌≤◌, ◌<◌, ◌^◌, ◌∙◌, get_or, length, inl, inr, sym, arith}
+use Rattle.surf_z2.proofs.Common.{ℕ, ◌≡◌, ◌≤◌, ◌<◌, ◌^◌, ◌∙◌, get_or, length, inl, inr, sym, arith, get_or_past, number}
 use Rattle.std.proofs.lemmas.Bool.{cases_lt, eq-eqb, ne_eqb}
-use Rattle.std.proofs.lemmas.List.{get_or_past}
-use Rattle.surf_z2.specs.Words.{number}
 use Rattle.surf_bits.proofs.Same.{same_words, words_same}
 use Rattle.surf_bits.proofs.words.are_same.Goals as goal
 

@@ -1,9 +1,6 @@
 use Rattle.std.proofs.Common.{ℕ, ◌≡◌, ◌<◌, ◌^◌, ◌/◌, ◌%◌, nat_eq, get_or, length, ap, sym, ◌∙◌, arith}
 use Rattle.std.proofs.lemmas.Nat.Bits.{shr_and_one, bit_at-zero}
-use Rattle.std.proofs.lemmas.List.{get_or_past}
-use Rattle.std.specs.Int.{bit_at}
-use Rattle.std.proofs.lemmas.Bool.{le-ltb}
-use Rattle.surf_z2.specs.Words.{number}
+use Rattle.surf_z2.proofs.Common.{get_or_past, bit_at, le-ltb, number}
 use Rattle.surf_z2.proofs.Words.{bit_number}
 use Rattle.surf_bits.proofs.words.has_bit.Goals as goal
 

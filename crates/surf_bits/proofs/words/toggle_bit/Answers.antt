@@ -1,7 +1,6 @@
-use Rattle.std.proofs.Common.{ℕ, ◌≡◌, ◌<◌, ◌^◌, ◌/◌, ◌%◌, ◌*◌, ◌+◌, get_or, set, bit_xor, ap, ◌∙◌, arith}
+use Rattle.surf_z2.proofs.Common.{ℕ, ◌≡◌, ◌<◌, ◌^◌, ◌/◌, ◌%◌, ◌*◌, ◌+◌, get_or, set, bit_xor, ap, ◌∙◌, arith, number}
 use Rattle.std.proofs.lemmas.Nat.{pow_below}
 use Rattle.surf_z2.proofs.Words.{number_toggle}
-use Rattle.surf_z2.specs.Words.{number}
 use Rattle.surf_bits.proofs.words.toggle_bit.Goals as goal
 
 pub returns : goal.returns

@@ -1,5 +1,4 @@
-use Rattle.surf_surfaces.proofs.Common.{arith, ◌∙◌, sym, ap, ℕ, List, Option, Ok, nat_tests}
-use Rattle.std.proofs.lemmas.Grind.{common_steps}
+use Rattle.surf_surfaces.proofs.Common.{arith, ◌∙◌, sym, ap, ℕ, List, Option, Ok, nat_tests, common_steps}
 use Rattle.surf_text.specs.Text.{tokens_of}
 use Rattle.surf_cert.specs.Lines.{numbers_of}
 use Rattle.surf_cert.specs.Grammar.{formed}

@@ -1,6 +1,5 @@
-use Rattle.surf_surfaces.proofs.Common.{◌≡◌, ℕ, List, ◌++◌, refl, ◌∙◌, subst, codes, decimal, get_or, drop, err_from_is_err_and}
+use Rattle.surf_surfaces.proofs.Common.{◌≡◌, ℕ, List, ◌++◌, refl, ◌∙◌, subst, codes, decimal, get_or, drop, err_from_is_err_and, take_rest}
 use Rattle.surf_text.specs.Pages.{Puts}
-use Rattle.std.proofs.lemmas.List.{take_rest}
 use Rattle.surf_cert.proofs.WrittenRows.{cycle_first}
 use Rattle.surf_text.proofs.Writing.{puts_more, puts_stop}
 use Rattle.surf_text.specs.Numbers.{numbers_text}

@@ -1,5 +1,4 @@
-use Rattle.surf_surfaces.proofs.Common.{◌≡◌, ◌-◌, length, get_or, ◌∙◌, arith, get_or_default}
-use Rattle.surf_surfaces.specs.Walk.{first, last}
+use Rattle.surf_surfaces.proofs.Common.{◌≡◌, ◌-◌, length, get_or, ◌∙◌, arith, get_or_default, first, last}
 use Rattle.surf_certcheck.proofs.Bases.{same_tells}
 use Rattle.surf_treecheck.proofs.Steps.{first_at, last_at}
 use Rattle.surf_certcheck.proofs.cycles.is_round.Goals as goal

@@ -1,8 +1,5 @@
-use Rattle.std.proofs.Common.{ℕ, ◌≡◌, ◌<◌, ◌^◌, ◌+◌, ◌-◌, ◌*◌, get_or, sym, subst, arith, w64}
-use Rattle.std.specs.Int.{leading_zeros}
+use Rattle.surf_surfaces.proofs.Common.{ℕ, ◌≡◌, ◌<◌, ◌^◌, ◌+◌, ◌-◌, ◌*◌, get_or, sym, subst, arith, w64, leading_zeros, number, number_zero}
 use Rattle.std.proofs.lemmas.Nat.{leading_top}
-use Rattle.surf_z2.specs.Words.{number}
-use Rattle.surf_z2.proofs.Words.{number_zero}
 use Rattle.surf_certcheck.specs.Columns.{IsGreatestIn}
 use Rattle.surf_certcheck.proofs.Greatest.{words_greatest}
 use Rattle.surf_certcheck.proofs.placed.greatest_in.Goals as goal

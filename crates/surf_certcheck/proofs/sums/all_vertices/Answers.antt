@@ -1,6 +1,4 @@
-use Rattle.surf_surfaces.proofs.Common.{◌+◌, ◌≡◌, ◌++◌, ◌∷◌, [], ap, sym, ◌∙◌, rules, arith, range_with_len}
-use Rattle.std.proofs.lemmas.List.{map-id}
-use Rattle.std.proofs.lemmas.List.FromFn.{map-range_with_len_more}
+use Rattle.surf_surfaces.proofs.Common.{◌+◌, ◌≡◌, ◌++◌, ◌∷◌, [], ap, sym, ◌∙◌, rules, arith, range_with_len, map-id, map-range_with_len_more}
 use Rattle.surf_certcheck.proofs.sums.all_vertices.Goals as goal
 
 pub loop-v-preserved : goal.loop-v-preserved

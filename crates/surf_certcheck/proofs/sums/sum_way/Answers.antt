@@ -1,5 +1,4 @@
-use Rattle.surf_surfaces.proofs.Common.{◌≡◌, ◌<◌, ◌*◌, ◌^◌, ◌∙◌, None, Some, bit_xor, slice_index, sym, ap, subst, arith, get_or-set_same, edge_number}
-use Rattle.std.proofs.lemmas.Nat.{xor_lt, pow_pos}
+use Rattle.surf_surfaces.proofs.Common.{◌≡◌, ◌<◌, ◌*◌, ◌^◌, ◌∙◌, None, Some, bit_xor, slice_index, sym, ap, subst, arith, get_or-set_same, edge_number, xor_lt, pow_pos}
 use Rattle.surf_signatures.specs.Tables.{Signed, words_for}
 use Rattle.surf_signatures.specs.Ways.{way_class}
 use Rattle.surf_validity.specs.Valid.{certified_tree, parent_at, or_zero, IsParent}

@@ -1,6 +1,5 @@
-use Rattle.surf_surfaces.proofs.Common.{◌≡◌, ◌≢◌, ◌++◌, ◌∷◌, [], ℕ, List, map, sym, ap, ◌∙◌, arith, rules, ends}
+use Rattle.surf_surfaces.proofs.Common.{◌≡◌, ◌≢◌, ◌++◌, ◌∷◌, [], ℕ, List, map, sym, ap, ◌∙◌, arith, rules, ends, Link}
 use Rattle.std.proofs.lemmas.List.{map-append, append_assoc, get_or_read}
-use Rattle.surf_surfaces.specs.Turning.{Link}
 use Rattle.surf_orientation.specs.Chains.{links_up}
 use Rattle.surf_orientation.proofs.OneSidedLaws.{tree_chains_go_by_step}
 use Rattle.surf_check.specs.Links.{link_of}

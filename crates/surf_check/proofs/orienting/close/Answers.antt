@@ -1,6 +1,5 @@
-use Rattle.surf_surfaces.proofs.Common.{◌≡◌, ◌++◌, ◌∷◌, [], ℕ, List, map, sym, ap, ◌∙◌, arith, rules, ends, faces_of}
+use Rattle.surf_surfaces.proofs.Common.{◌≡◌, ◌++◌, ◌∷◌, [], ℕ, List, map, sym, ap, ◌∙◌, arith, rules, ends, faces_of, Link}
 use Rattle.std.proofs.lemmas.List.{map-append, append_assoc}
-use Rattle.surf_surfaces.specs.Turning.{Link}
 use Rattle.surf_surfaces.proofs.meshes.SurfaceLaws.{two_faces_of}
 use Rattle.surf_orientation.specs.Chains.{links_up, links_down}
 use Rattle.surf_check.specs.Links.{link_of}

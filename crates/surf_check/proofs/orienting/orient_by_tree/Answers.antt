@@ -1,6 +1,4 @@
-use Rattle.std.proofs.Common.{◌≡◌, List, Bool, length, sym, subst}
-use Rattle.surf_surfaces.specs.Surface.{face_count, IsOrientation, IsOrientable}
-use Rattle.surf_surfaces.specs.Turning.{Link, IsOneSided}
+use Rattle.surf_surfaces.proofs.Common.{◌≡◌, List, Bool, length, sym, subst, face_count, IsOrientation, IsOrientable, Link, IsOneSided}
 use Rattle.surf_surfaces.proofs.meshes.OrientationLaws.{one_sided_chains_exclude_orientations}
 use Rattle.surf_orientation.specs.Chains.{Fits, tree_chain}
 use Rattle.surf_orientation.proofs.OneSidedLaws.{misfits_are_one_sided}

@@ -1,7 +1,4 @@
-use Rattle.std.proofs.Common.{ℕ, ◌≡◌, ◌<◌, ◌^◌, ◌+◌, ◌-◌, ◌*◌, get_or, length, sym, subst, arith, w64}
-use Rattle.std.specs.Int.{leading_zeros}
-use Rattle.surf_z2.specs.Words.{number}
-use Rattle.surf_z2.proofs.Words.{number_zero}
+use Rattle.surf_surfaces.proofs.Common.{ℕ, ◌≡◌, ◌<◌, ◌^◌, ◌+◌, ◌-◌, ◌*◌, get_or, length, sym, subst, arith, w64, leading_zeros, number, number_zero}
 use Rattle.surf_choice.specs.Echelons.{IsGreatest}
 use Rattle.surf_choice.proofs.Greatest.{number_greatest, word_greatest}
 use Rattle.surf_choice.proofs.echelon.greatest.Goals as goal

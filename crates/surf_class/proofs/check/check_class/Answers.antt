@@ -1,5 +1,4 @@
-use Rattle.std.proofs.Common.{◌≡◌, ◌≢◌, ◌<◌, true, ℕ, List, Bool, AllPairs, IfErr, sym, subst}
-use Rattle.surf_surfaces.proofs.Common.{pair_lt, edge_count, parity}
+use Rattle.surf_surfaces.proofs.Common.{◌≡◌, ◌≢◌, ◌<◌, true, ℕ, List, Bool, AllPairs, IfErr, sym, subst, pair_lt, edge_count, parity}
 use Rattle.surf_treecheck.specs.Split.{AreFlags}
 use Rattle.surf_classes.specs.Evidence.{null_faces, odd_pairs, IsEvidence}
 use Rattle.surf_class.specs.Faults.{IsClassFault}

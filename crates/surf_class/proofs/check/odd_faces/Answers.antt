@@ -1,5 +1,4 @@
-use Rattle.surf_surfaces.proofs.Common.{◌≡◌, ◌<◌, ℕ, Bool, false, List, length, get_or, sym, ap, ◌∙◌, subst, arith, map, xor, odd, face_count, borders, edge_number}
-use Rattle.std.proofs.lemmas.Grind.{common_steps}
+use Rattle.surf_surfaces.proofs.Common.{◌≡◌, ◌<◌, ℕ, Bool, false, List, length, get_or, sym, ap, ◌∙◌, subst, arith, map, xor, odd, face_count, borders, edge_number, common_steps}
 use Rattle.surf_treecheck.specs.Split.{AreFlags}
 use Rattle.surf_classes.specs.Evidence.{has_odd_sides}
 use Rattle.surf_class.proofs.Lists.{restored}

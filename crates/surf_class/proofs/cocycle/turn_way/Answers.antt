@@ -1,5 +1,4 @@
-use Rattle.surf_surfaces.proofs.Common.{◌≡◌, false, get_or, ap, sym, ◌∙◌, arith, xor, xor-false, dual, on_path, cells_of}
-use Rattle.surf_graphs.proofs.Trees.{path_root}
+use Rattle.surf_surfaces.proofs.Common.{◌≡◌, false, get_or, ap, sym, ◌∙◌, arith, xor, xor-false, dual, on_path, cells_of, path_root}
 use Rattle.surf_cotree.specs.Tables.{cotree_of}
 use Rattle.surf_class.proofs.Cocycles.{turned_up}
 use Rattle.surf_class.proofs.cocycle.turn_way.Goals as goal

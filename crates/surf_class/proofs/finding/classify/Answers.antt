@@ -1,7 +1,5 @@
-use Rattle.surf_surfaces.proofs.Common.{◌≡◌, ◌<◌, ◌∙◌, ℕ, List, Bool, Option, true, false, map, filter, length, get_or, sym, subst, ap, arith, range_with_len, get_or_default, Chain, dual, IsSplit, Tree, cells_of, Mesh, edge_count, ends}
-use Rattle.std.specs.Option.{option_copied}
+use Rattle.surf_surfaces.proofs.Common.{◌≡◌, ◌<◌, ◌∙◌, ℕ, List, Bool, Option, true, false, map, filter, length, get_or, sym, subst, ap, arith, range_with_len, get_or_default, Chain, dual, IsSplit, Tree, cells_of, Mesh, edge_count, ends, option_copied, IsBoundary}
 use Rattle.surf_signatures.specs.Signs.{has_left}
-use Rattle.surf_surfaces.specs.Homology.{IsBoundary}
 use Rattle.surf_cotree.specs.Tables.{CotreeTables, cotree_of, split_with}
 use Rattle.surf_treecheck.specs.Split.{AreFlags}
 use Rattle.surf_classes.specs.Evidence.{joint_parity, IsChosenOdd, IsChosenNull}

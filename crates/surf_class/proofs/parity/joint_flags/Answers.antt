@@ -1,5 +1,4 @@
-use Rattle.surf_surfaces.proofs.Common.{sym, subst, List, ℕ, IsClosed}
-use Rattle.std.specs.Option.{option_copied}
+use Rattle.surf_surfaces.proofs.Common.{sym, subst, List, ℕ, IsClosed, option_copied}
 use Rattle.surf_class.proofs.Joint.{first_closed}
 use Rattle.surf_class.proofs.parity.joint_flags.Goals as goal
 

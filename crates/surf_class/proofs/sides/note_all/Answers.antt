@@ -1,5 +1,4 @@
-use Rattle.std.proofs.Common.{◌≡◌, ℕ, subst, arith, inl, inr, IsSome}
-use Rattle.std.proofs.lemmas.Bool.{cases_lt}
+use Rattle.surf_surfaces.proofs.Common.{◌≡◌, ℕ, subst, arith, inl, inr, IsSome, cases_lt}
 use Rattle.surf_class.specs.Sides.{side_at}
 use Rattle.surf_class.proofs.sides.note_all.Goals as goal
 

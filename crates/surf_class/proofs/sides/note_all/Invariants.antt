@@ -1,5 +1,4 @@
-use Rattle.std.proofs.Common.{◌≡◌, ◌<◌, ℕ, Bool, IsSome, length}
-use Rattle.surf_surfaces.specs.Surface.{face_count}
+use Rattle.surf_surfaces.proofs.Common.{◌≡◌, ◌<◌, ℕ, Bool, IsSome, length, face_count}
 use Rattle.surf_class.specs.Sides.{IsParted, AreSidesOf, side_at}
 use Rattle.surf_class.proofs.sides.note_all.Given as goal
 

@@ -1,5 +1,4 @@
-use Rattle.std.proofs.Common.{◌≡◌, ◌≤◌, vec_capacity, filter}
-use Rattle.std.specs.List.{range_with_len}
+use Rattle.surf_surfaces.proofs.Common.{◌≡◌, ◌≤◌, vec_capacity, filter, range_with_len}
 use Rattle.surf_cotree.specs.Searches.{is_unmarked}
 use Rattle.surf_cotree.proofs.listing.list_left.Given as goal
 

@@ -1,5 +1,4 @@
-use Rattle.std.proofs.Common.{◌≡◌, ◌≤◌, ◌+◌, ◌*◌, ◌/◌, ◌%◌, ℕ, List, [], ◌∷◌, ◌++◌, slice_index, sym, ap, ◌∙◌, subst, add-zero, arith}
-use Rattle.std.proofs.lemmas.Nat.{div-mul-add, mod-mul-add, row_fits}
+use Rattle.surf_surfaces.proofs.Common.{◌≡◌, ◌≤◌, ◌+◌, ◌*◌, ◌/◌, ◌%◌, ℕ, List, [], ◌∷◌, ◌++◌, slice_index, sym, ap, ◌∙◌, subst, add-zero, arith, div-mul-add, mod-mul-add, row_fits}
 use Rattle.surf_classes.specs.Cover.{IsReadTo}
 use Rattle.surf_classes.proofs.ReadBack.{tables_read_on}
 use Rattle.surf_cover.specs.Networks.{link_by, table_of}

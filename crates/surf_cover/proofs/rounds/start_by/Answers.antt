@@ -1,7 +1,5 @@
-use Rattle.surf_surfaces.proofs.Common.{◌≡◌, ◌<◌, ◌≤◌, ◌+◌, ◌*◌, ◌/◌, ◌%◌, ℕ, List, length, bit_xor, subst, sym, ap, ◌∙◌, arith, inl, inr, cases_eq, cases_lt, numbers}
-use Rattle.std.proofs.lemmas.Nat.{div-mul-add, mod-mul-add, row_fits}
+use Rattle.surf_surfaces.proofs.Common.{◌≡◌, ◌<◌, ◌≤◌, ◌+◌, ◌*◌, ◌/◌, ◌%◌, ℕ, List, length, bit_xor, subst, sym, ap, ◌∙◌, arith, inl, inr, cases_eq, cases_lt, numbers, div-mul-add, mod-mul-add, row_fits, add_zero}
 use Rattle.surf_base.specs.Tables.{at}
-use Rattle.surf_z2.proofs.Span.{add_zero}
 use Rattle.surf_tree.specs.Searches.{far}
 use Rattle.surf_cover.specs.Tables.{distance_at}
 use Rattle.surf_cover.specs.Starts.{IsDivided, IsOnRound}

@@ -1,5 +1,4 @@
-use Rattle.std.proofs.Common.{◌≡◌, ◌≤◌, ◌+◌, ℕ, length, eqb, vec_capacity}
-use Rattle.surf_z2.specs.Parity.{count_below}
+use Rattle.surf_surfaces.proofs.Common.{◌≡◌, ◌≤◌, ◌+◌, ℕ, length, eqb, vec_capacity, count_below}
 use Rattle.surf_base.specs.Tables.{at}
 use Rattle.surf_tree.specs.Searches.{far}
 use Rattle.surf_tree.proofs.SearchWords.{IsSearch}

@@ -1,5 +1,4 @@
-use Rattle.std.proofs.Common.{◌≡◌, List, Bool, subst}
-use Rattle.std.specs.Prelude.{IfErr}
+use Rattle.surf_surfaces.proofs.Common.{◌≡◌, List, Bool, subst, IfErr}
 use Rattle.surf_cutter.specs.declared.kind.CutFault.TheVariants.{Near}
 use Rattle.surf_cutter.specs.Kinds.{kind_of}
 use Rattle.surf_cutter.specs.Opened.{IsNearFor}

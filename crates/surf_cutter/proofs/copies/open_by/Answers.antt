@@ -1,5 +1,4 @@
-use Rattle.surf_surfaces.proofs.Common.{◌≡◌, ◌≤◌, ◌++◌, [], ℕ, List, length, take, drop, ap, sym, ◌∙◌, subst, arith, Mesh, face_count, side_count}
-use Rattle.std.proofs.lemmas.List.{append-nil, drop_all, take_all}
+use Rattle.surf_surfaces.proofs.Common.{◌≡◌, ◌≤◌, ◌++◌, [], ℕ, List, length, take, drop, ap, sym, ◌∙◌, subst, arith, Mesh, face_count, side_count, append-nil, drop_all, take_all}
 use Rattle.surf_soup.specs.Vertices.{all_corners}
 use Rattle.surf_cutter.specs.Copies.{AreCounted}
 use Rattle.surf_cutter.specs.Faces.{AreRowsOf, AreRenumberedTo}

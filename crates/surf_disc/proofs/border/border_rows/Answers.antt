@@ -1,5 +1,4 @@
-use Rattle.surf_surfaces.proofs.Common.{◌≡◌, ◌<◌, ◌+◌, ◌++◌, ◌∷◌, [], ℕ, List, length, sym, ap, subst, ◌∙◌, arith, flat_map, sum_by, get_or_default, after, before, side_count}
-use Rattle.std.proofs.lemmas.List.Sums.{sum_by_push}
+use Rattle.surf_surfaces.proofs.Common.{◌≡◌, ◌<◌, ◌+◌, ◌++◌, ◌∷◌, [], ℕ, List, length, sym, ap, subst, ◌∙◌, arith, flat_map, sum_by, get_or_default, after, before, side_count, sum_by_push}
 use Rattle.surf_soup.specs.Vertices.{all_corners, sides_at}
 use Rattle.surf_soup.proofs.TurnedSides.{turned_size}
 use Rattle.surf_soup.proofs.VertexLaws.{at_len, at_is, corners_len}

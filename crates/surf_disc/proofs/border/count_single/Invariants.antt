@@ -1,5 +1,4 @@
-use Rattle.std.proofs.Common.{◌≡◌, ◌≤◌, take, length, eqb}
-use Rattle.std.specs.List.{count_by}
+use Rattle.surf_surfaces.proofs.Common.{◌≡◌, ◌≤◌, take, length, eqb, count_by}
 use Rattle.surf_disc.proofs.border.count_single.Given as goal
 
 abbrev pub invariant-loop-e : goal.invariant-loop-e

@@ -1,5 +1,4 @@
-use Rattle.surf_surfaces.proofs.Common.{◌≡◌, ℕ, suc, ◌+◌, ◌-◌, ◌*◌, ◌^◌, ◌<◌, ◌≤◌, List, [], ◌∷◌, ◌++◌, length, map, take, drop, slice_index, rules, ap, sym, refl, subst, ◌∙◌, arith, All, length-map-range_with_len, Mesh}
-use Rattle.std.proofs.Math.Seq.{take-append_seam}
+use Rattle.surf_surfaces.proofs.Common.{◌≡◌, ℕ, suc, ◌+◌, ◌-◌, ◌*◌, ◌^◌, ◌<◌, ◌≤◌, List, [], ◌∷◌, ◌++◌, length, map, take, drop, slice_index, rules, ap, sym, refl, subst, ◌∙◌, arith, All, length-map-range_with_len, Mesh, take-append_seam}
 use Rattle.surf_tori.specs.Chain.{joint, longer_chain, chain}
 use Rattle.surf_tori.specs.Torus.{torus_faces}
 use Rattle.surf_tori.specs.ConnectedSum.{sum_name}

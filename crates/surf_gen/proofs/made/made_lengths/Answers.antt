@@ -1,5 +1,4 @@
-use Rattle.std.proofs.Common.{◌≡◌, ◌≢◌, ℕ, length, All, ap, sym, ◌∙◌, subst, arith}
-use Rattle.std.proofs.lemmas.List.FromFn.{map-range_with_len_more, length-map-range_with_len}
+use Rattle.surf_surfaces.proofs.Common.{◌≡◌, ◌≢◌, ℕ, length, All, ap, sym, ◌∙◌, subst, arith, map-range_with_len_more, length-map-range_with_len}
 use Rattle.surf_gen.specs.Made.{made_length}
 use Rattle.surf_gen.proofs.MadeLaws.{made_are_positive}
 use Rattle.surf_gen.proofs.made.made_lengths.Goals as goal

@@ -1,6 +1,5 @@
-use Rattle.surf_surfaces.proofs.Common.{◌-◌, ◌*◌, ℕ, List, length, ap, sym, ◌∙◌, subst, arith, edges}
+use Rattle.surf_surfaces.proofs.Common.{◌-◌, ◌*◌, ℕ, List, length, ap, sym, ◌∙◌, subst, arith, edges, one-le-pow}
 use Rattle.std.specs.List.{All}
-use Rattle.std.proofs.Math.Nat.{one-le-pow}
 use Rattle.surf_geom.specs.declared.points.Point.{Point}
 use Rattle.surf_geom.specs.Points.{IsNear}
 use Rattle.surf_geom.specs.Measures.{length_of}

@@ -1,5 +1,4 @@
-use Rattle.surf_surfaces.proofs.Common.{sym, ap, ◌∙◌, ◌&&◌, list_all}
-use Rattle.std.specs.Char.{is_ascii_digit}
+use Rattle.surf_surfaces.proofs.Common.{sym, ap, ◌∙◌, ◌&&◌, list_all, is_ascii_digit}
 use Rattle.surf_geom.proofs.DigitLaws.{some_front}
 use Rattle.surf_geom.proofs.numbers.are_mantissa.Goals as goal
 

@@ -1,5 +1,4 @@
-use Rattle.surf_surfaces.proofs.Common.{◌≡◌, ◌≢◌, ◌<◌, ◌≤◌, ℕ, List, [], Option, Result, Ok, Err, get_or, length, sym, ap, ◌∙◌, err_from_is_err_and, Mesh, edge_count}
-use Rattle.std.specs.List.{fold}
+use Rattle.surf_surfaces.proofs.Common.{◌≡◌, ◌≢◌, ◌<◌, ◌≤◌, ℕ, List, [], Option, Result, Ok, Err, get_or, length, sym, ap, ◌∙◌, err_from_is_err_and, Mesh, edge_count, fold}
 use Rattle.std.proofs.Math.ListN.{length-set, length-replicate}
 use Rattle.surf_text.specs.Text.{TextLine, lines_of}
 use Rattle.surf_text.specs.Walks.{lines_ahead}

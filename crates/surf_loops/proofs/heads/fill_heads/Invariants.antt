@@ -1,5 +1,4 @@
-use Rattle.std.proofs.Common.{◌≡◌, ◌≤◌, map, take, vec_capacity}
-use Rattle.surf_surfaces.specs.Loop.{loop_length}
+use Rattle.surf_surfaces.proofs.Common.{◌≡◌, ◌≤◌, map, take, vec_capacity, loop_length}
 use Rattle.surf_tree.specs.Tables.{tree_of}
 use Rattle.surf_loops.specs.Heads.{head_of}
 use Rattle.surf_loops.proofs.heads.fill_heads.Given as goal

@@ -1,5 +1,4 @@
-use Rattle.std.proofs.Common.{rules}
-use Rattle.std.proofs.lemmas.List.Sorted.{IsNonDecreasingBy-from_sort_by_key}
+use Rattle.surf_surfaces.proofs.Common.{rules, IsNonDecreasingBy-from_sort_by_key}
 use Rattle.surf_loops.specs.Heads.{order_of}
 use Rattle.surf_loops.proofs.heads.sort_heads.Goals as goal
 

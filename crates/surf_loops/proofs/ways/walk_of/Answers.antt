@@ -1,5 +1,4 @@
-use Rattle.std.proofs.Common.{ℕ, ◌≡◌, ◌<◌, ◌∙◌, sym, ap, subst}
-use Rattle.surf_surfaces.specs.Walk.{IsClosedAt}
+use Rattle.surf_surfaces.proofs.Common.{ℕ, ◌≡◌, ◌<◌, ◌∙◌, sym, ap, subst, IsClosedAt}
 use Rattle.surf_tree.specs.Tables.{tree_of}
 use Rattle.surf_surfaces.proofs.meshes.CellLaws.{ends_in}
 use Rattle.surf_loops.proofs.Turned.{loop_listed}

@@ -1,6 +1,5 @@
-use Rattle.surf_surfaces.proofs.Common.{◌≡◌, ◌∷◌, ap, length, arith, err_from_is_err_and}
+use Rattle.surf_surfaces.proofs.Common.{◌≡◌, ◌∷◌, ap, length, arith, err_from_is_err_and, common_steps}
 use Rattle.std.proofs.lemmas.Option.{MatchOption-at_some}
-use Rattle.std.proofs.lemmas.Grind.{common_steps}
 use Rattle.surf_off.proofs.Corners.{corner_more, corner_bad, corners_done, rest_more}
 use Rattle.surf_off.proofs.faces.read_corners.Goals as goal
 

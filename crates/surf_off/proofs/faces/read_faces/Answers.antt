@@ -1,6 +1,5 @@
 use Rattle.std.proofs.Common.{◌≡◌, ◌<◌, ◌≤◌, ◌+◌, ℕ, true, List, [], ◌∷◌, ◌++◌, length, length-append, get_or, take, drop, Ok, ap, sym, subst, ◌∙◌, arith}
-use Rattle.surf_surfaces.proofs.Common.{Option, IfSome, err_from_is_err_and, Mesh}
-use Rattle.std.proofs.lemmas.List.Sums.{sum_by_push}
+use Rattle.surf_surfaces.proofs.Common.{Option, IfSome, err_from_is_err_and, Mesh, sum_by_push}
 use Rattle.surf_text.specs.Walks.{lines_ahead}
 use Rattle.surf_off.specs.Off.{Face, face_of}
 use Rattle.surf_off.specs.Gives.{GivesFace}

@@ -1,5 +1,4 @@
-use Rattle.surf_surfaces.proofs.Common.{◌≡◌, ◌<◌, ◌≤◌, ℕ, List, [], length, get_or, refl, ◌∙◌, ap, arith, zip, length-map, err_from_is_err_and}
-use Rattle.std.proofs.lemmas.Slice.Zip.{length-zip}
+use Rattle.surf_surfaces.proofs.Common.{◌≡◌, ◌<◌, ◌≤◌, ℕ, List, [], length, get_or, refl, ◌∙◌, ap, arith, zip, length-map, err_from_is_err_and, length-zip}
 use Rattle.surf_text.specs.Pages.{Puts}
 use Rattle.surf_text.proofs.Writing.{loop_more, loop_stop, loop_done}
 use Rattle.surf_off.specs.Written.{face_text, faces_text, no_colours}

@@ -1,5 +1,4 @@
-use Rattle.surf_surfaces.proofs.Common.{◌≤◌, ◌+◌, ◌<◌, ℕ, length, get_or, sym, subst, inl, inr, arith, cases_eq}
-use Rattle.std.proofs.lemmas.List.{get_or_default, get_or-take, length-take}
+use Rattle.surf_surfaces.proofs.Common.{◌≤◌, ◌+◌, ◌<◌, ℕ, length, get_or, sym, subst, inl, inr, arith, cases_eq, get_or_default, get_or-take, length-take}
 use Rattle.surf_off.specs.declared.parts.Span.{Span}
 use Rattle.surf_off.proofs.off_places.front_of.Goals as goal
 

@@ -1,5 +1,4 @@
-use Rattle.surf_surfaces.proofs.Common.{sym, ◌∙◌, refl, arith, All-nil}
-use Rattle.std.proofs.lemmas.Grind.{common_steps}
+use Rattle.surf_surfaces.proofs.Common.{sym, ◌∙◌, refl, arith, All-nil, common_steps}
 use Rattle.surf_off.proofs.PlainLines.{none_so_far, one_more, begins}
 use Rattle.surf_off.proofs.plain.plain_corners.Goals as goal
 

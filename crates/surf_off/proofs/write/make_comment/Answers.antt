@@ -1,6 +1,5 @@
 use Rattle.std.proofs.Common.{◌≡◌, ◌≤◌, ◌<◌, ◌+◌, ◌^◌, ◌++◌, ℕ, List, ap, length, length-append, arith}
-use Rattle.std.specs.Prelude.{decimal}
-use Rattle.std.proofs.lemmas.Fmt.{length-decimal-le}
+use Rattle.surf_surfaces.proofs.Common.{decimal, length-decimal-le}
 use Rattle.surf_off.proofs.ShortFaces.{number_short, number_before}
 use Rattle.surf_off.proofs.write.make_comment.Goals as goal
 

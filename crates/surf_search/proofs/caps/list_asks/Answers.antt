@@ -1,5 +1,4 @@
-use Rattle.surf_surfaces.proofs.Common.{◌≡◌, ◌<◌, ◌^◌, All, List, min, slice_index, inl, inr, sym, ap, ◌∙◌, subst, arith, cases_eq, nat_tests, edge_count}
-use Rattle.std.proofs.lemmas.List.Elements.{All-push}
+use Rattle.surf_surfaces.proofs.Common.{◌≡◌, ◌<◌, ◌^◌, All, List, min, slice_index, inl, inr, sym, ap, ◌∙◌, subst, arith, cases_eq, nat_tests, edge_count, All-push}
 use Rattle.surf_choice.specs.Candidates.{IsSumOfLength}
 use Rattle.surf_search.specs.declared.caps.Ask.{Ask}
 use Rattle.surf_search.specs.Rounds.{IsAsked}

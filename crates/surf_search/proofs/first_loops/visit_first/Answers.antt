@@ -1,6 +1,5 @@
-use Rattle.surf_surfaces.proofs.Common.{ℕ, Bool, List, refl, sym, subst, IsTrue, Tree}
+use Rattle.surf_surfaces.proofs.Common.{ℕ, Bool, List, refl, sym, subst, IsTrue, Tree, with_vertex}
 use Rattle.surf_surfaces.proofs.bases.FirstCycleLaws.{shortest_trees}
-use Rattle.surf_surfaces.specs.FewBases.{with_vertex}
 use Rattle.surf_search.specs.Found.{IsFirstAt, IsFirstOf}
 use Rattle.surf_search.specs.Passing.{is_marked}
 use Rattle.surf_search.proofs.NearFirst.{ahead_first_in}

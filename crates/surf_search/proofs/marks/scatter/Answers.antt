@@ -1,5 +1,4 @@
-use Rattle.std.proofs.Common.{rules}
-use Rattle.std.proofs.lemmas.List.Sorted.{IsNonDecreasingBy-from_sort_by_key}
+use Rattle.surf_surfaces.proofs.Common.{rules, IsNonDecreasingBy-from_sort_by_key}
 use Rattle.surf_search.specs.Marks.{bits_backwards}
 use Rattle.surf_search.proofs.marks.scatter.Goals as goal
 

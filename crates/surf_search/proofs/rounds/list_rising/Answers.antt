@@ -1,5 +1,4 @@
-use Rattle.surf_surfaces.proofs.Common.{◌≡◌, ℕ, ◌<◌, ◌++◌, ◌∷◌, [], List, All, length, sym, ap, ◌∙◌, subst, arith, All-permutation}
-use Rattle.std.proofs.lemmas.List.Elements.{All-push}
+use Rattle.surf_surfaces.proofs.Common.{◌≡◌, ℕ, ◌<◌, ◌++◌, ◌∷◌, [], List, All, length, sym, ap, ◌∙◌, subst, arith, All-permutation, All-push}
 use Rattle.surf_search.specs.Rounds.{AreRising}
 use Rattle.surf_search.proofs.Capping.{rising_same, rising_more, rising_permuted}
 use Rattle.surf_search.proofs.Marked.{written_back}

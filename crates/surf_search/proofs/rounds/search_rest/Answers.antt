@@ -1,5 +1,4 @@
-use Rattle.std.proofs.Common.{sym, subst}
-use Rattle.surf_z2.specs.Space.{no_member}
+use Rattle.surf_surfaces.proofs.Common.{sym, subst, no_member}
 use Rattle.surf_surfaces.proofs.bases.FirstCycleLaws.{shortest_trees}
 use Rattle.surf_choice.specs.Places.{limit_of}
 use Rattle.surf_search.specs.Found.{SurfaceTables}

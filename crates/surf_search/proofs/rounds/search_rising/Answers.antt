@@ -1,5 +1,4 @@
-use Rattle.surf_surfaces.proofs.Common.{ℕ, ◌<◌, ◌≤◌, All, List, sym, subst, arith, inl, inr, All-contains}
-use Rattle.std.proofs.lemmas.Result.{on_ok_weaker}
+use Rattle.surf_surfaces.proofs.Common.{ℕ, ◌<◌, ◌≤◌, All, List, sym, subst, arith, inl, inr, All-contains, on_ok_weaker}
 use Rattle.surf_search.specs.Rounds.{cap_at}
 use Rattle.surf_search.proofs.rounds.search_rising.Goals as goal
 

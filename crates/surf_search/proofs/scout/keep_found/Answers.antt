@@ -1,5 +1,4 @@
-use Rattle.surf_surfaces.proofs.Common.{◌≡◌, ◌<◌, ◌+◌, ◌++◌, ℕ, Bool, false, List, length, take, drop, replicate, refl, sym, ap, ◌∙◌, subst, arith, inl, inr, IsTrue, slice_index, cases_lt, get_or_default, length-replicate, Tree}
-use Rattle.surf_z2.specs.Space.{no_member}
+use Rattle.surf_surfaces.proofs.Common.{◌≡◌, ◌<◌, ◌+◌, ◌++◌, ℕ, Bool, false, List, length, take, drop, replicate, refl, sym, ap, ◌∙◌, subst, arith, inl, inr, IsTrue, slice_index, cases_lt, get_or_default, length-replicate, Tree, no_member}
 use Rattle.surf_surfaces.proofs.bases.FirstCycleLaws.{shortest_trees}
 use Rattle.surf_choice.specs.Places.{limit_of}
 use Rattle.surf_search.specs.Found.{SurfaceTables, is_among}

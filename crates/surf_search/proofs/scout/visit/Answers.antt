@@ -1,6 +1,5 @@
-use Rattle.surf_surfaces.proofs.Common.{ℕ, Bool, List, refl, subst, IsTrue, Tree}
+use Rattle.surf_surfaces.proofs.Common.{ℕ, Bool, List, refl, subst, IsTrue, Tree, with_vertex}
 use Rattle.surf_surfaces.proofs.bases.FirstCycleLaws.{shortest_trees}
-use Rattle.surf_surfaces.specs.FewBases.{with_vertex}
 use Rattle.surf_choice.specs.Places.{limit_of}
 use Rattle.surf_search.specs.Passing.{is_marked}
 use Rattle.surf_search.proofs.Barred.{ahead_kept}

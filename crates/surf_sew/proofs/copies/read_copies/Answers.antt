@@ -1,6 +1,4 @@
-use Rattle.surf_surfaces.proofs.Common.{◌≡◌, ◌+◌, ℕ, List, [], ◌∷◌, ◌++◌, length, Some, None, Ok, Err, sym, ◌∙◌, ap, arith, cond, ◌==◌, true, false, Bool, eq-eqb, ne_eqb, length_push}
-use Rattle.std.proofs.lemmas.List.Splits.{length-slice_split}
-use Rattle.std.proofs.lemmas.List.Sums.{count_by-le-length}
+use Rattle.surf_surfaces.proofs.Common.{◌≡◌, ◌+◌, ℕ, List, [], ◌∷◌, ◌++◌, length, Some, None, Ok, Err, sym, ◌∙◌, ap, arith, cond, ◌==◌, true, false, Bool, eq-eqb, ne_eqb, length_push, length-slice_split, count_by-le-length}
 use Rattle.surf_text.specs.Text.{is_line_end, words_of}
 use Rattle.surf_text.specs.Walks.{parts_of}
 use Rattle.surf_sew.specs.declared.copies.CopyFault.TheVariants.{CopyCount}

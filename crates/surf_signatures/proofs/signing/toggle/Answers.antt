@@ -1,5 +1,4 @@
-use Rattle.surf_surfaces.proofs.Common.{◌≡◌, ◌<◌, ◌^◌, ◌%◌, ◌*◌, ◌&&◌, eqb, set, bit_xor, subst, arith, xor}
-use Rattle.std.proofs.lemmas.Nat.{pow_below}
+use Rattle.surf_surfaces.proofs.Common.{◌≡◌, ◌<◌, ◌^◌, ◌%◌, ◌*◌, ◌&&◌, eqb, set, bit_xor, subst, arith, xor, pow_below}
 use Rattle.surf_base.specs.Tables.{at}
 use Rattle.surf_signatures.specs.Signs.{cell, sign_bit}
 use Rattle.surf_signatures.proofs.Toggling.{toggled}

@@ -1,6 +1,4 @@
-use Rattle.surf_surfaces.proofs.Common.{◌≡◌, ◌+◌, ◌*◌, ◌-◌, ◌∙◌, bit_xor, refl, ap, length, arith, number, ℕ}
-use Rattle.std.specs.Int.Bits.{xor_zero_l}
-use Rattle.surf_z2.proofs.Words.{number_zero}
+use Rattle.surf_surfaces.proofs.Common.{◌≡◌, ◌+◌, ◌*◌, ◌-◌, ◌∙◌, bit_xor, refl, ap, length, arith, number, ℕ, xor_zero_l, number_zero}
 use Rattle.surf_signatures.proofs.Rewritten.{row_put}
 use Rattle.surf_signatures.proofs.vertex_sets.put_at.Goals as goal
 

@@ -1,6 +1,5 @@
-use Rattle.surf_surfaces.proofs.Common.{◌≡◌, ◌<◌, length, get_or, ◌∙◌, arith, get_or_default}
+use Rattle.surf_surfaces.proofs.Common.{◌≡◌, ◌<◌, length, get_or, ◌∙◌, arith, get_or_default, count_few}
 use Rattle.surf_slit.specs.Place.{cut_behind}
-use Rattle.surf_z2.proofs.Counting.{count_few}
 use Rattle.surf_slit.proofs.labelling.label_runs.Goals as goal
 use Rattle.surf_slit.proofs.labelling.label_runs.Goals.{then-run-cuts, else-run-cuts}
 

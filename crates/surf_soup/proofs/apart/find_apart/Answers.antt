@@ -1,5 +1,4 @@
-use Rattle.std.proofs.Common.{◌≡◌, ℕ, List, length, drop, sym, subst, ◌∙◌, arith}
-use Rattle.std.proofs.lemmas.List.{take_at}
+use Rattle.surf_surfaces.proofs.Common.{◌≡◌, ℕ, List, length, drop, sym, subst, ◌∙◌, arith, take_at}
 use Rattle.surf_soup.specs.Apart.{AreFaceRoots}
 use Rattle.surf_soup.proofs.ApartLaws.{none_apart, least_apart}
 use Rattle.surf_soup.proofs.apart.find_apart.Goals as goal

@@ -1,6 +1,5 @@
 use Rattle.std.proofs.Common.{ℕ, length, length-append, ap, arith}
-use Rattle.std.specs.Prelude.{decimal}
-use Rattle.std.proofs.lemmas.Fmt.{length-decimal-le}
+use Rattle.surf_surfaces.proofs.Common.{decimal, length-decimal-le}
 use Rattle.surf_texts.proofs.distances.put_parent.Goals as goal
 
 pub put_whole-requires : goal.put_whole-requires

@@ -1,5 +1,4 @@
-use Rattle.std.proofs.Common.{◌≡◌, ◌<◌, ◌*◌, ◌^◌, bit_xor, ap, sym, subst, ◌∙◌, length}
-use Rattle.surf_z2.specs.Words.{number}
+use Rattle.surf_z2.proofs.Common.{◌≡◌, ◌<◌, ◌*◌, ◌^◌, bit_xor, ap, sym, subst, ◌∙◌, length, number}
 use Rattle.surf_bits.proofs.Rows.{number_most}
 use Rattle.surf_bits.proofs.bits.Bits.add_to.Goals as goal
 

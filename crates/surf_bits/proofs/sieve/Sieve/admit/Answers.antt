@@ -1,8 +1,6 @@
-use Rattle.std.proofs.Common.{◌<◌, ◌≤◌, ◌^◌, IsTrue, ◌++◌, ◌∷◌, [], length, sym, ap, subst, ◌∙◌, arith}
+use Rattle.surf_z2.proofs.Common.{◌<◌, ◌≤◌, ◌^◌, IsTrue, ◌++◌, ◌∷◌, [], length, sym, ap, subst, ◌∙◌, arith, Spanned, numbers, has}
 use Rattle.surf_bits.proofs.Rows.{take_most}
 use Rattle.std.specs.Int.Bits.{xor_zero_l, bit_xor}
-use Rattle.surf_z2.specs.Space.{Spanned, numbers}
-use Rattle.surf_z2.specs.Sieve.{has}
 use Rattle.surf_bits.proofs.Rows.{rows_few, none_left, left_tells, left_by_rows, room_to_admit, AreAdmitted, admitted_rows, admitted_list, row_room}
 use Rattle.surf_bits.proofs.sieve.Sieve.admit.Goals as goal
 

@@ -1,6 +1,4 @@
-use Rattle.std.proofs.Common.{◌≡◌, ◌<◌, ◌≤◌, ◌*◌, MatchBool, MatchOption, IsTrue, length, ap, subst, ◌∙◌, arith}
-use Rattle.surf_z2.specs.Space.{Spanned, numbers}
-use Rattle.surf_z2.specs.Sieve.{has}
+use Rattle.surf_z2.proofs.Common.{◌≡◌, ◌<◌, ◌≤◌, ◌*◌, MatchBool, MatchOption, IsTrue, length, ap, subst, ◌∙◌, arith, Spanned, numbers, has}
 use Rattle.surf_bits.specs.Rows.{left_of, sieve_rows}
 use Rattle.surf_bits.proofs.Rows.{rows_few, spans_tells}
 use Rattle.surf_bits.proofs.sieve.Sieve.spans.Goals as goal

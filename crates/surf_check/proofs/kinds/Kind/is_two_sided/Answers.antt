@@ -1,5 +1,4 @@
-use Rattle.surf_surfaces.proofs.Common.{◌∙◌, IfOk, Bool, false, sym, ap, subst, MatchBool, Mesh}
-use Rattle.surf_surfaces.specs.Surface.{IsOrientable}
+use Rattle.surf_surfaces.proofs.Common.{◌∙◌, IfOk, Bool, false, sym, ap, subst, MatchBool, Mesh, IsOrientable}
 use Rattle.surf_check.specs.Kinds.{kept_mesh, IsKeptKind}
 use Rattle.surf_check.specs.declared.kinds.Kept.{Kept}
 use Rattle.surf_check.proofs.kinds.Kind.is_two_sided.Goals as goal

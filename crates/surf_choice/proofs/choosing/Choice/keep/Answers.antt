@@ -1,5 +1,4 @@
-use Rattle.std.proofs.Common.{◌<◌, ◌^◌, [], take, refl, sym, ap, ◌∙◌, subst, arith}
-use Rattle.std.proofs.lemmas.List.{take-map}
+use Rattle.surf_surfaces.proofs.Common.{◌<◌, ◌^◌, [], take, refl, sym, ap, ◌∙◌, subst, arith, take-map}
 use Rattle.surf_choice.specs.declared.candidate.Signed.{Signed}
 use Rattle.surf_choice.specs.Candidates.{Chosen, signed_earlier, signatures}
 use Rattle.surf_choice.specs.Echelons.{Rows, AreRowsOf}

@@ -1,6 +1,4 @@
-use Rattle.surf_surfaces.proofs.Common.{◌≡◌, ◌≢◌, ◌<◌, ◌&&◌, ◌∙◌, ℕ, List, Bool, not, eqb, false, filter, get_or, length, arith, ap, sym, subst, inl, inr, range_with_len, cases_eq, any_below, Graph, dual, edge_count, face_count, cells_of}
-use Rattle.std.proofs.lemmas.List.{with_items_is}
-use Rattle.std.specs.Vec.{with_items}
+use Rattle.surf_surfaces.proofs.Common.{◌≡◌, ◌≢◌, ◌<◌, ◌&&◌, ◌∙◌, ℕ, List, Bool, not, eqb, false, filter, get_or, length, arith, ap, sym, subst, inl, inr, range_with_len, cases_eq, any_below, Graph, dual, edge_count, face_count, cells_of, with_items_is, with_items}
 use Rattle.surf_surfaces.proofs.meshes.CellLaws.{surfaces_are_cells}
 use Rattle.surf_base.specs.Tables.{nobody, at}
 use Rattle.surf_cotree.specs.Tables.{CotreeTables, AreCotreeTables}

@@ -1,5 +1,4 @@
-use Rattle.std.proofs.Common.{◌<◌, length, ap, subst, arith, true}
-use Rattle.std.specs.Prelude.{slice_set}
+use Rattle.surf_surfaces.proofs.Common.{◌<◌, length, ap, subst, arith, true, slice_set}
 use Rattle.surf_near.specs.Links.{LinkTables, KeepsOff, barred_lengths}
 use Rattle.surf_near.proofs.Barring.{bar_keeps, bar_shuts}
 use Rattle.surf_near.proofs.links.Links.bar.Goals as goal

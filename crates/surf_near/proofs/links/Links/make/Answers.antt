@@ -1,6 +1,5 @@
 use Rattle.std.proofs.Common.{◌≡◌, ◌<◌, ◌∙◌, ◌∷◌, ◌++◌, [], List, false, replicate, length, length-append, ap, subst, arith, inl, inr}
-use Rattle.surf_surfaces.proofs.Common.{sum_by, cases_eq, get_or_push, get_or_append_left, length-replicate}
-use Rattle.std.proofs.lemmas.List.Sums.{sum_by_push}
+use Rattle.surf_surfaces.proofs.Common.{sum_by, cases_eq, get_or_push, get_or_append_left, length-replicate, sum_by_push}
 use Rattle.surf_mesh.proofs.LinkLaws.{cells_few}
 use Rattle.surf_near.specs.declared.links.Link.{Link}
 use Rattle.surf_near.specs.Links.{AreGivenAt, barred_lengths, degree}

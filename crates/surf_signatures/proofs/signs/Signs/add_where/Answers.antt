@@ -1,7 +1,4 @@
-use Rattle.std.proofs.Common.{◌≤◌, ◌<◌, ◌*◌, ◌^◌, ◌≡◌, ◌∙◌, [], refl, lit<, sym, subst, arith}
-use Rattle.surf_surfaces.proofs.Common.{pow-le-pow_right, eqb-true}
-use Rattle.std.specs.Vec.{vec_len}
-use Rattle.std.proofs.lemmas.List.{nil_from_length}
+use Rattle.surf_surfaces.proofs.Common.{◌≤◌, ◌<◌, ◌*◌, ◌^◌, ◌≡◌, ◌∙◌, [], refl, lit<, sym, subst, arith, pow-le-pow_right, eqb-true, vec_len, nil_from_length}
 use Rattle.surf_signatures.specs.Tables.{Signed, words_for}
 use Rattle.surf_signatures.proofs.Rewritten.{rows_empty}
 use Rattle.surf_signatures.proofs.signs.Signs.add_where.Goals as goal

@@ -1,8 +1,5 @@
-use Rattle.std.proofs.Common.{◌≡◌, ◌≢◌, ◌<◌, ◌*◌, ◌^◌, ◌∙◌, ℕ, [], lit<, sym, ap, subst, arith, length, take, drop, get_or}
+use Rattle.surf_surfaces.proofs.Common.{◌≡◌, ◌≢◌, ◌<◌, ◌*◌, ◌^◌, ◌∙◌, ℕ, [], lit<, sym, ap, subst, arith, length, take, drop, get_or, vec_len, eqb-true, eqb-false, nil_from_length}
 use Rattle.std.proofs.Math.Seq.{take-nil, drop-nil}
-use Rattle.std.specs.Vec.{vec_len}
-use Rattle.std.proofs.lemmas.Bool.{eqb-true, eqb-false}
-use Rattle.std.proofs.lemmas.List.{nil_from_length}
 use Rattle.surf_signatures.specs.Tables.{words_for}
 use Rattle.surf_signatures.proofs.Written.{row_room, row_lent}
 use Rattle.surf_signatures.proofs.signs.Signs.signature.Goals as goal

@@ -1,6 +1,4 @@
-use Rattle.surf_surfaces.proofs.Common.{inl, inr, ◌≡◌, ◌≤◌, ◌∙◌, ap, sym, subst, length, arith, cases_lt, edge_count}
-use Rattle.std.proofs.lemmas.List.{with_items_is}
-use Rattle.std.specs.Vec.{with_items}
+use Rattle.surf_surfaces.proofs.Common.{inl, inr, ◌≡◌, ◌≤◌, ◌∙◌, ap, sym, subst, length, arith, cases_lt, edge_count, with_items_is, with_items}
 use Rattle.surf_signatures.specs.Tables.{Signed, words_for}
 use Rattle.surf_signatures.proofs.Written.{rows-length, signatures_written}
 use Rattle.surf_signatures.proofs.signs.Signs.write.Goals as goal

@@ -1,6 +1,4 @@
-use Rattle.std.proofs.Common.{◌≡◌, ◌<◌, ◌∙◌, ℕ, List, cond, eqb, ap, sym, subst, length, set, arith}
-use Rattle.std.specs.Vec.{with_items}
-use Rattle.std.proofs.lemmas.List.{with_items_is}
+use Rattle.surf_surfaces.proofs.Common.{◌≡◌, ◌<◌, ◌∙◌, ℕ, List, cond, eqb, ap, sym, subst, length, set, arith, with_items, with_items_is}
 use Rattle.surf_signatures.specs.Tables.{words_for, row_of, sets_in, Signed}
 use Rattle.surf_signatures.proofs.Written.{rows-length, row_room}
 use Rattle.surf_signatures.proofs.Rewritten.{rows_set}

@@ -1,6 +1,4 @@
-use Rattle.surf_surfaces.proofs.Common.{◌≡◌, ◌<◌, ◌≤◌, ◌+◌, ◌*◌, ◌&&◌, ℕ, not, eqb, false, get_or, length, arith, subst, ap, any_below, primal, cells_of, edge_count, edge_length}
-use Rattle.std.proofs.lemmas.List.{with_items_is}
-use Rattle.std.specs.Vec.{with_items}
+use Rattle.surf_surfaces.proofs.Common.{◌≡◌, ◌<◌, ◌≤◌, ◌+◌, ◌*◌, ◌&&◌, ℕ, not, eqb, false, get_or, length, arith, subst, ap, any_below, primal, cells_of, edge_count, edge_length, with_items_is, with_items}
 use Rattle.surf_surfaces.proofs.meshes.CellLaws.{surfaces_are_cells}
 use Rattle.surf_mesh.proofs.LinkLaws.{cells_few}
 use Rattle.surf_lengths.specs.Lengths.{longest}
