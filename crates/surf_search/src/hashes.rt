@@ -36,10 +36,7 @@ fn hash_of(set: &Bits<'_>, width: u32) -> u64
 }
 
 /// Lists the hash of each edge's signature.
-pub(crate) fn edge_hashes(
-    alloc: Global,
-    surface: &SignedSurface<'_>,
-) -> Result<Vec<u64>, NoMemory>
+pub(crate) fn edge_hashes(alloc: Global, surface: &SignedSurface<'_>) -> Result<Vec<u64>, NoMemory>
     requires table { length surface.now.signatures.now.signatures
         ≡ edge_count surface.now.mesh.now }
 {
