@@ -7,7 +7,7 @@
     reach.py --check        ends with 1 where the counts there are old
 
 A clause is what stands in braces behind `requires`, `ensures`, `invariant` or `decreases`, and behind the `=` or `:` of
-a `ghost` item, such as the view of a type. It reaches the names that its file imports and that it has, a definition
+a `ghost` item or field, such as the view of a type, or its `by`. It reaches the names that its file imports and that it has, a definition
 reaches those that its own file has or imports, and so on down. Lines of definitions are counted without comments,
 imports and empty lines. Names of std and of the kit are not followed.
 """
@@ -55,7 +55,7 @@ REQUESTS = ("surf_words", "Words")  # the home of the cases
 START = re.compile(r"^( *)(?:(?:pub |private |unfoldable |abbrev |data |record )+)([^\s:({]+)")
 WORD = re.compile(r"[^\s(){}\[\],;`\"]+")
 IMPORT = re.compile(r"^\s*(?:pub )?(?:ghost )?use Rattle\.(surf_\w+)\.(specs|proofs)\.([\w.]+?)\.\{([^}]*)\};?", re.M)
-CLAUSE = re.compile(r"\b(?:requires|ensures|invariant|decreases)\b(?: +\w+)? *\{|\bghost +\w+ *[=:] *\{")
+CLAUSE = re.compile(r"\b(?:requires|ensures|invariant|decreases)\b(?: +\w+)? *\{|\bghost +\w+ *[=:] *\{|\bby *\{")
 
 
 class Definition:

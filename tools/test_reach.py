@@ -102,6 +102,7 @@ class Reach(unittest.TestCase):
 
     def test_clauses(self):
         self.assertEqual(list(reach.clauses_of("ensures a { x { y } }\nghost view = { z };\n// ensures { no }\n")), [" x { y } ", " z "])
+        self.assertEqual(list(reach.clauses_of("ghost kept: { x } by { y },\n")), [" x ", " y "])
 
     def test_each_row_of_the_command_table_has_an_answer(self):
         rows = {words[0] for words in commands.rows()}
