@@ -6,10 +6,10 @@
     reach.py --write        puts the counts for all commands into docs/believe.md
     reach.py --check        ends with 1 where the counts there are old
 
-A clause is what stands in braces behind `requires`, `ensures`, `invariant` or `decreases`, and behind the `=` or `:` of
-a `ghost` item or field, such as the view of a type, or its `by`. It reaches the names that its file imports and that it has, a definition
-reaches those that its own file has or imports, and so on down. Lines of definitions are counted without comments,
-imports and empty lines. Names of std and of the kit are not followed.
+A clause is what stands in braces behind `requires`, `ensures`, `invariant` or `decreases`, and behind the `=`, `:` or
+`by` of a `ghost` item or field, such as the view of a type. It reaches the names that its file imports and that it
+has, a definition reaches those that its own file has or imports, and so on down. Lines of definitions are counted
+without comments, imports and empty lines. Names of std and of the kit are not followed.
 """
 
 import pathlib
