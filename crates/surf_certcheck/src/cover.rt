@@ -20,7 +20,7 @@ ghost use Rattle.surf_certcheck.specs.Covering.{IsSummedUp, HasFrame, IsCoveredI
 ghost use Rattle.surf_base.specs.declared.limits.TheConstants.{MAX_LOOPS};
 
 use crate::cases::BasisCase;
-use crate::frame::Frame;
+use crate::coordinates::Frame;
 use crate::heavier::size_of;
 use crate::placed::is_placed;
 use crate::sums::sum_ways;

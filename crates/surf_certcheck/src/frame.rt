@@ -15,6 +15,7 @@ ghost use Rattle.surf_base.specs.declared.limits.TheConstants.{MAX_LOOPS};
 
 use crate::cases::BasisCase;
 use crate::columns::sort_places;
+use crate::coordinates::Frame;
 use crate::cycles::{cycle_from, length_of, step_edge};
 use std::alloc::Global;
 use surf_base::{NoMemory, VertexId};
@@ -22,22 +23,6 @@ use surf_bits::Signature;
 use surf_mesh::HalfMesh;
 use surf_signatures::Signs;
 use surf_treecheck::CertFault;
-
-/// The coordinates of all edges in which each cycle is a place alone, and for each place the length
-/// of its cycle.
-///
-/// This is C. Jordan's elimination. The coordinates are first the signatures. One cycle after the
-/// other gets a place that it has and no earlier one got: where an edge has that place, the rest of
-/// the cycle is added. The map of signatures to coordinates takes sums to sums and can be undone,
-/// so a signature is a sum of those of some of the cycles exactly where its coordinates are among
-/// their places. At the end the places are put in the order of their cycles' lengths.
-#[derive(Drop)]
-pub(crate) struct Frame {
-    pub(crate) signs: Signs,
-    pub(crate) weights: Vec<Option<u128>>,
-    ghost places: { length weights.items ≡ signs.width },
-    ghost few: { signs.width ≤ MAX_LOOPS },
-}
 
 // The sum of the coordinates of a cycle's steps.
 fn cycle_set(mesh: &HalfMesh, signs: &Signs, list: &[VertexId]) -> Signature

@@ -19,6 +19,7 @@
 mod basis;
 mod cases;
 mod columns;
+mod coordinates;
 mod cover;
 mod cycles;
 mod frame;
