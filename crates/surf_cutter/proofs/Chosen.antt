@@ -92,15 +92,13 @@ full_counted {mesh} surface held is origins faces chosen = full_openings_are_cou
 module _ {mesh : Mesh} (surface : IsSurface mesh) (held cut : List Bool) (flags : length held ≡ edge_count mesh) (over : AreTurnedOver held cut) (is : IsHeld mesh held) where
   pub full_is_chosen : IsChosenCut mesh held full cut
   full_is_chosen = record {
-    flags = over.0 ∙ flags;
-    opens = full_opens cut (is_full surface held cut flags over is);
+    disc = record { flags = over.0 ∙ flags; opens = full_opens cut (is_full surface held cut flags over is) };
     chosen = λ opened in_order. full_chosen surface held cut flags over in_order.0 in_order.1;
   }
 
   pub trimmed_is_chosen : (less : List Bool) → length less ≡ length cut → IsTrimmedFrom mesh cut less → HasEndedBy mesh less → IsChosenCut mesh held trimmed less
   trimmed_is_chosen less same steps ended = record {
-    flags = same ∙ over.0 ∙ flags;
-    opens = trimmed_opens cut less (is_full surface held cut flags over is) steps;
+    disc = record { flags = same ∙ over.0 ∙ flags; opens = trimmed_opens cut less (is_full surface held cut flags over is) steps };
     chosen = λ opened in_order. trimmed_chosen surface held cut flags over less steps ended in_order.0 in_order.1;
   }
 

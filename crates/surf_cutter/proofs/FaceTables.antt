@@ -1,7 +1,7 @@
 -- Faces in one table, by the places where they begin.
 use Rattle.surf_surfaces.proofs.Common.{◌≡◌, ℕ, suc, ◌+◌, ◌-◌, ◌<◌, ◌≤◌, List, [], ◌∷◌, ◌++◌, length, get_or, take, drop, refl, sym, ap, subst, ◌∙◌, inl, inr, arith, flat_map, sum_by, cases_eq, Mesh, face_count, face_at, side_count, first_side, take-length, length-drop, length-take, get_or-take, get_or-drop, get_or_read, length_push, get_or_push, get_or_append_left}
 use Rattle.surf_rows.specs.Rows.{AreEnds}
-use Rattle.surf_rows.proofs.Cuts.{length-cut, span_at, row_is-cut, sum-first, sum-cut, flat-cut, ends_push}
+use Rattle.surf_rows.proofs.Cuts.{length-cut, span_at, row_is-cut, sum-first, flat-cut, ends_push}
 use Rattle.surf_soup.proofs.HalfLaws.{spans}
 use Rattle.surf_cutter.specs.Faces.{AreBounds, rows_from, AreStartsTo, AreRowsOf}
 
@@ -36,9 +36,6 @@ module _ (starts items : List ℕ) (are : AreBounds starts (length items)) where
   row_starts f le =
       let n = length-cut 0 (drop 1 starts) items in
       omega (arith, sum-first 0 (drop 1 starts) (length items) items f are.ends (omega arith) (omega (arith, n)), place f)
-
-  pub row_total : sum_by length (rows_from starts items) ≡ length items
-  row_total = sum-cut 0 (drop 1 starts) (length items) items are.ends (omega arith)
 
   pub all_rows : flat_map (λ row. row) (rows_from starts items) ≡ items
   all_rows = flat-cut 0 (drop 1 starts) (length items) items are.ends (omega arith)

@@ -5,7 +5,7 @@ use Rattle.surf_surfaces.proofs.Common.{cases_eq, eq-eqb, or_right, Contains, co
 use Rattle.std.proofs.lemmas.List.{get_or-set_same, get_or-set_other}
 use Rattle.std.proofs.lemmas.List.Folds.{list_any_more, list_any_at}
 use Rattle.surf_opening.specs.ChosenCut.{AreDivided, full_cut}
-use Rattle.surf_opening.specs.Laws.{cut_count, without}
+use Rattle.surf_opening.specs.Laws.{cut_count}
 use Rattle.surf_opening.proofs.openings.ChosenOpenings.{some_list}
 use Rattle.surf_seams.specs.Through.{IsCutThrough, IsTakenBackTo}
 use Rattle.surf_seams.proofs.AtBase.{full_cuts_start}
@@ -122,10 +122,12 @@ module _ {mesh : Mesh} (surface : IsSurface mesh) (held cut : List Bool) (flags 
 
   pub through_is_chosen : 2 ≤ cut_count mesh (is_cut less) → IsChosenCut mesh held (through points) less
   through_is_chosen many = record {
-    flags = same ∙ over.0 ∙ flags;
-    opens = (let l = some_list surface is.2 in
-        let t = taken_back_are_trimmed mesh is.0 is.1 l.0 test (is_cut less) surface is.2 l.1 (back_to is.0 is.1 is.2 is.3) many in
-        (l.0, t.0, l.1.grows, t.1, t.2));
+    disc = record {
+      flags = same ∙ over.0 ∙ flags;
+      opens = (let l = some_list surface is.2 in
+          let t = taken_back_are_trimmed mesh is.0 is.1 l.0 test (is_cut less) surface is.2 l.1 (back_to is.0 is.1 is.2 is.3) many in
+          (l.0, t.0, l.1.grows, t.1, t.2));
+    };
     chosen = λ opened in_order tree cotree split marks.
         record { cut = is_cut less; is_through = is_through tree cotree split marks; some = many; opened = in_order.0; in_order = in_order.1 };
   }

@@ -87,6 +87,7 @@ taken_back {mesh} surface cut degree less p q e are flags h is size first second
       );
       other_end = elim which [ inl o ↦ subst (λ q. q < mesh.vertices) o.1 below.1 | inr o ↦ subst (λ q. q < mesh.vertices) o.1 in_u ];
       degrees = record {
+        flags = length-set cut e false ∙ flags;
         size = size ∙ are.size;
         counted = λ v v_in. elim (cases_eq u v) [
           | inl i ↦
@@ -145,9 +146,6 @@ count_taken {mesh} p q old new degree less flags t =
     let is = t.taken.1 in
     let lt = is.is_edge in
     count_without mesh old e is.is_edge (omega arith) is.is_cut ∙ ap (λ (cut : List Bool). suc (cut_count mesh (is_cut cut))) (sym t.taken.2)
-
-pub size_taken : {mesh : Mesh} (p q : ℕ) (old new : List Bool) (degree less : List ℕ) → IsTakenBack mesh p q old new degree less → length new ≡ length old
-size_taken {mesh} p q old new degree less t = ap length t.taken.2 ∙ length-set old t.taken.0 false
 
 -- trimming from a vertex on has come to its end
 pub no_other_left : {mesh : Mesh} (p q low : ℕ) (old new : List Bool) (degree less : List ℕ) (left : ℕ) → 2 < left → HasNoOtherLeaf mesh low p degree left → IsTakenBack mesh p q old new degree less → HasNoOtherLeaf mesh low q less (left - 1)

@@ -11,6 +11,11 @@ use Rattle.surf_base.specs.Tables.{nobody}
 abbrev pub label_at : List ℕ → List ℕ → ℕ → ℕ
 label_at order labels j = slice_index labels (slice_index order j)
 
+-- one label a side, all of them below a count
+pub record AreLabelsBelow (mesh : Mesh) (count : ℕ) (labels : List ℕ) : Type 0 where
+  pub all : length labels ≡ side_count mesh
+  pub below : (s : ℕ) → s < side_count mesh → slice_index labels s < count
+
 -- some sides all have the label of the first
 abbrev pub HaveOneLabel : List ℕ → List ℕ → Type 0
 HaveOneLabel sides labels = (k : ℕ) → k < length sides → label_at sides labels k ≡ label_at sides labels 0

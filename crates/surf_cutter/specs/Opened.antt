@@ -57,11 +57,25 @@ abbrev pub IsNearFor : Mesh → List Bool → Kind → Type 0
 IsNearFor mesh held kind =
     (tree cotree : Tree) → AreDivided mesh tree cotree → MarksCotree mesh cotree held → IsNear mesh tree cotree kind
 
+-- a surface with a mark for some of its edges
+pub record MarkedMesh : Type 0 where
+  pub mesh : Mesh
+  pub marks : List Bool
+
+-- the marks of a tree of the faces: one flag an edge
+pub record IsHeldTree (mesh : Mesh) (marks : List Bool) : Type 0 where
+  pub size : length marks ≡ edge_count mesh
+  pub held : IsHeld mesh marks
+
+-- the marks of a cut along which the surface opens to a disc: one flag an edge
+pub record IsDiscCut (mesh : Mesh) (cut : List Bool) : Type 0 where
+  pub flags : length cut ≡ edge_count mesh
+  pub opens : OpensToDisc mesh cut
+
 -- Along the edges with a flag the surface opens to a disc, and what is opened along them is the opening along the
 -- cut of the kind.
 pub record IsChosenCut (mesh : Mesh) (held : List Bool) (kind : Kind) (cut : List Bool) : Type 0 where
-  pub flags : length cut ≡ edge_count mesh
-  pub opens : OpensToDisc mesh cut
+  pub disc : IsDiscCut mesh cut
   pub chosen : (opened : OpenMesh) → IsOpenedInOrder mesh cut opened → IsChosenFor mesh held kind opened
 
 -- each edge is marked in exactly one of the two tables

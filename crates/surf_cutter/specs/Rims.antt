@@ -1,14 +1,22 @@
 -- The border sides at the copies of an opened surface.
 use Rattle.std.specs.Prelude.{◌≡◌, ◌≢◌, ℕ, ◌<◌, ◌==◌, ◌⊎◌, cond, List, [], length, map, slice_index, slice_index_or}
+use Rattle.surf_surfaces.specs.Disc.{IsDisc}
 use Rattle.surf_surfaces.specs.Mesh.{Mesh}
 use Rattle.surf_surfaces.specs.Surface.{face_count, face_at}
 use Rattle.surf_base.specs.Tables.{nobody}
-use Rattle.surf_cutter.specs.Boundary.{HasCopy, IsBorderSide}
+use Rattle.surf_cutter.specs.Boundary.{HasCopy, HasPairedBorder, IsBorderSide, AreBorderSides}
 
 -- faces with as many corners as those of a surface
 pub record HaveSameSizes (mesh : Mesh) (faces : List (List ℕ)) : Type 0 where
   pub count : length faces ≡ face_count mesh
   pub sizes : (f : ℕ) → f < face_count mesh → length (slice_index_or faces f []) ≡ length (face_at mesh f)
+
+-- a disc with as many corners in its faces as those of a surface have, and its border sides in their order
+pub record IsBordered (mesh disc : Mesh) (sides : List ℕ) : Type 0 where
+  pub sizes : HaveSameSizes mesh disc.faces
+  pub is_disc : IsDisc disc
+  pub paired : HasPairedBorder disc
+  pub all : AreBorderSides disc sides
 
 -- two sides beside the copies to which they lead, the first of which may still be missing, with one side more
 abbrev pub with_reach : (ℕ × ℕ) × (ℕ × ℕ) → ℕ × ℕ → (ℕ × ℕ) × (ℕ × ℕ)

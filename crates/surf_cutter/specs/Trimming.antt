@@ -15,8 +15,9 @@ use Rattle.surf_cutter.specs.Kinds.{is_point}
 abbrev pub is_cut : List Bool → Chain
 is_cut cut e = slice_index_or cut e false
 
--- how many cut edges each vertex has
+-- one flag an edge, and how many cut edges each vertex has
 pub record AreDegrees (mesh : Mesh) (cut : List Bool) (degree : List ℕ) : Type 0 where
+  pub flags : length cut ≡ edge_count mesh
   pub size : length degree ≡ mesh.vertices
   pub counted : (v : ℕ) → v < mesh.vertices → slice_index degree v ≡ degree_in mesh (is_cut cut) v
 

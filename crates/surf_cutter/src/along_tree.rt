@@ -5,7 +5,7 @@ ghost use Rattle.surf_surfaces.specs.Surface.{edge_count, face_count};
 ghost use Rattle.surf_cutter.specs.Kinds.{full, trimmed, through, kind_of, points_of, HaveCopiesOnBorder};
 ghost use Rattle.surf_cutter.specs.Opened.{IsHeld, IsChosenFor, IsNearFor};
 
-use crate::cutting::{open_disc, open_full, open_through, open_trimmed};
+use crate::cutting::{HeldTree, open_disc, open_full, open_through, open_trimmed};
 use crate::kind::{CutFault, CutKind};
 use crate::{OpenDisc, Opened};
 use std::alloc::Global;
@@ -24,8 +24,8 @@ pub fn cut_full(alloc: Global, mesh: &HalfMesh, cotree: &CotreeDesk) -> Result<O
         ≡ edge_count mesh.now + edge_count mesh.now + 2) }
 {
     mesh.law_of_surface();
-    let mut flags = cotree.held().to_vec(alloc)?;
-    open_full(alloc, mesh, &mut flags)
+    let flags = cotree.held().to_vec(alloc)?;
+    open_full(alloc, HeldTree::of(mesh, flags))
 }
 
 /// The same with the cut trimmed: while more than two edges are cut and a vertex has exactly one of
@@ -36,8 +36,8 @@ pub fn cut_trim(alloc: Global, mesh: &HalfMesh, cotree: &CotreeDesk) -> Result<O
     ensures chosen { IfOk result (λ o. IsChosenFor mesh.now cotree.now.held trimmed o) }
     ensures opening { IfOk result (λ o. IsOpening mesh.now o.origins o.faces) }
 {
-    let mut flags = cotree.held().to_vec(alloc)?;
-    open_trimmed(alloc, mesh, &mut flags)
+    let flags = cotree.held().to_vec(alloc)?;
+    open_trimmed(alloc, HeldTree::of(mesh, flags))
 }
 
 /// The surface cut through some vertices: along the largest set of the edges that the tree of the
@@ -61,8 +61,8 @@ pub fn cut_through(
     ensures near { IfErr result (λ e. e ≡ CutFault.Near →
         IsNearFor mesh.now cotree.now.held (through points.now)) }
 {
-    let mut flags = cotree.held().to_vec(alloc)?;
-    open_through(alloc, mesh, &mut flags, points)
+    let flags = cotree.held().to_vec(alloc)?;
+    open_through(alloc, HeldTree::of(mesh, flags), points)
 }
 
 /// The disc that the surface is opened to along the edges that a tree of its faces doesn't hold, as
@@ -84,6 +84,5 @@ pub fn disc_outside(
     ensures near { IfErr result (λ e. e ≡ CutFault.Near → IsNearFor mesh.now held.items
         (kind_of kind)) }
 {
-    let mut flags = held;
-    open_disc(alloc, mesh, &mut flags, kind)
+    open_disc(alloc, HeldTree::of(mesh, held), kind)
 }

@@ -2,14 +2,13 @@
 //! them.
 ghost use Rattle.std.specs.Prelude.{◌≡◌, ◌≢◌, ◌<◌, ◌+◌, ◌^◌, [], ◌∷◌, ◌++◌, ℕ, List, length, IfOk, IsTrue};
 ghost use Rattle.std.specs.Prelude.{Bool, OnOk, slice_index, slice_set};
-ghost use Rattle.std.specs.List.{sum_by};
 ghost use Rattle.surf_surfaces.specs.Surface.{edge_count};
 ghost use Rattle.surf_opening.specs.ChosenCut.{AreInOrder};
 ghost use Rattle.surf_opening.specs.Opening.{IsOpenedBy};
 ghost use Rattle.surf_surfaces.specs.SideNumber.{side_count};
 ghost use Rattle.surf_slit.specs.Labels.{IsUncut, AreLabels};
 ghost use Rattle.surf_base.specs.Tables.{nobody};
-ghost use Rattle.surf_cutter.specs.Copies.{AreNumberedTo, HaveOneLabel, IsRowAt};
+ghost use Rattle.surf_cutter.specs.Copies.{AreLabelsBelow, AreNumberedTo, HaveOneLabel, IsRowAt};
 ghost use Rattle.surf_cutter.specs.Faces.{AreRenumberedTo};
 
 use crate::NOBODY;
@@ -72,9 +71,7 @@ fn number_row(
     origins: &mut Vec<VertexId>,
 ) -> Result<(), NoMemory>
     requires row { IsRowAt mesh.now v row.now }
-    requires all { length labels.now ≡ side_count mesh.now }
-    requires labels { (s : ℕ) → s < side_count mesh.now →
-        slice_index labels.now s < length numbers.old }
+    requires labels { AreLabelsBelow mesh.now (length numbers.old) labels.now }
     requires so_far { AreNumberedTo mesh.now v labels.now numbers.old origins.old.items }
     ensures size { length numbers.new ≡ length numbers.old }
     ensures numbered { OnOk result (AreNumberedTo mesh.now (v + 1) labels.now numbers.new
@@ -113,15 +110,13 @@ fn number_vertex(
     origins: &mut Vec<VertexId>,
 ) -> Result<(), NoMemory>
     requires vertex { v < mesh.now.vertices }
-    requires few { side_count mesh.now < 2 ^ 30 }
-    requires all { length labels.now ≡ side_count mesh.now }
-    requires labels { (s : ℕ) → s < side_count mesh.now →
-        slice_index labels.now s < length numbers.old }
+    requires labels { AreLabelsBelow mesh.now (length numbers.old) labels.now }
     requires so_far { AreNumberedTo mesh.now v labels.now numbers.old origins.old.items }
     ensures size { length numbers.new ≡ length numbers.old }
     ensures numbered { OnOk result (AreNumberedTo mesh.now (v + 1) labels.now numbers.new
         origins.new.items) }
 {
+    mesh.law_of_surface();
     let ring = mesh.ring(v);
     if have_one_label(ring, labels) {
         return number_label(label_of(labels, ring[0]), v, numbers, origins);
@@ -137,9 +132,7 @@ fn number_copies(
     labels: &[CopyId],
     numbers: &mut [u32],
 ) -> Result<Vec<VertexId>, NoMemory>
-    requires all { length labels.now ≡ side_count mesh.now }
-    requires labels { (s : ℕ) → s < side_count mesh.now →
-        slice_index labels.now s < length numbers.old }
+    requires labels { AreLabelsBelow mesh.now (length numbers.old) labels.now }
     requires unset { (l : ℕ) → l < length numbers.old → slice_index numbers.old l ≡ nobody }
     ensures size { length numbers.new ≡ length numbers.old }
     ensures numbered { IfOk result (λ origins. AreNumberedTo mesh.now mesh.now.vertices
@@ -179,9 +172,7 @@ fn open_by(
     labels: Vec<CopyId>,
     numbers: &mut [u32],
 ) -> Result<(Vec<VertexId>, OpenFaces), NoMemory>
-    requires all { length labels.items ≡ side_count mesh.now }
-    requires labels { (s : ℕ) → s < side_count mesh.now →
-        slice_index labels.items s < length numbers.old }
+    requires labels { AreLabelsBelow mesh.now (length numbers.old) labels.items }
     requires unset { (l : ℕ) → l < length numbers.old → slice_index numbers.old l ≡ nobody }
     ensures opened { IfOk result (λ r. (cut : List Bool) (count : ℕ) →
         AreLabels mesh.now cut labels.items count →
@@ -189,7 +180,6 @@ fn open_by(
     ensures order { IfOk result (λ r. (cut : List Bool) (count : ℕ) →
         AreLabels mesh.now cut labels.items count → AreInOrder mesh.now r.0.items r.1) }
     ensures few { IfOk result (λ r. length r.0.items < 2 ^ 30) }
-    ensures corners { IfOk result (λ r. sum_by length r.1 ≡ side_count mesh.now) }
 {
     mesh.law_of_surface();
     let mut corners = labels;
@@ -211,7 +201,6 @@ pub(crate) fn open_along(
         r.0.items r.1) }
     ensures order { IfOk result (λ r. AreInOrder mesh.now r.0.items r.1) }
     ensures few { IfOk result (λ r. length r.0.items < 2 ^ 30) }
-    ensures corners { IfOk result (λ r. sum_by length r.1 ≡ side_count mesh.now) }
 {
     let (labels, count) = labels_along(alloc, mesh, cut)?;
     let mut numbers = vec![in alloc; NOBODY; count as usize]?;

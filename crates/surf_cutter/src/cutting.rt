@@ -1,25 +1,40 @@
 //! Cutting a surface open along edges outside a tree of its faces.
 ghost use Rattle.std.specs.Prelude.{◌≡◌, ◌<◌, length, All, IfOk, OnOk, IfErr};
-ghost use Rattle.std.specs.List.{sum_by};
 ghost use Rattle.surf_surfaces.specs.Disc.{IsOpening};
-ghost use Rattle.surf_surfaces.specs.SideNumber.{side_count};
-ghost use Rattle.surf_surfaces.specs.Surface.{edge_count};
-ghost use Rattle.surf_cutter.specs.Boundary.{OpensToDisc};
+ghost use Rattle.surf_surfaces.specs.Surface.{edge_count, IsSurface};
 ghost use Rattle.surf_cutter.specs.Kinds.{full, trimmed, through, kind_of, points_of};
 ghost use Rattle.surf_cutter.specs.Kinds.{HaveCopiesOnBorder};
 ghost use Rattle.surf_cutter.specs.Trimming.{IsTrimmedFrom, HasEndedBy, IsTakenTo};
-ghost use Rattle.surf_cutter.specs.Opened.{IsOpenedInOrder, IsHeld, IsChosenFor, IsNearFor};
+ghost use Rattle.surf_cutter.specs.Opened.{IsOpenedInOrder, IsHeld, IsHeldTree, IsChosenFor, IsNearFor};
 ghost use Rattle.surf_cutter.specs.Opened.{IsChosenCut, AreTurnedOver};
 
 use crate::border::boundary_along;
-use crate::copies::open_along;
+use crate::disc_cut::DiscCut;
 use crate::kind::{CutFault, CutKind};
 use crate::taking::{mark_points, take_loose};
 use crate::trimming::{count_cut, count_degrees, trim};
 use crate::{OpenDisc, Opened};
 use std::alloc::Global;
+use std::marker::Model;
 use surf_base::{NoMemory, VertexId};
 use surf_mesh::HalfMesh;
+
+/// A surface with a flag for each edge that a tree of its faces holds.
+#[derive(Drop)]
+pub(crate) struct HeldTree<'a> {
+    mesh: &'a HalfMesh,
+    flags: Vec<bool>,
+}
+
+impl<'a> Model for HeldTree<'a> {
+    ghost use Rattle.surf_cutter.specs.Opened.{MarkedMesh, IsHeldTree};
+
+    ghost Value = { MarkedMesh };
+
+    ghost view = { λ h. record { mesh = h.mesh.now; marks = h.flags.items } };
+
+    ghost invariant = { λ h. IsHeldTree h.mesh.now h.flags.items };
+}
 
 // Marks the edges that had no mark, and no others.
 fn turn_over(flags: &mut [bool])
@@ -28,6 +43,15 @@ fn turn_over(flags: &mut [bool])
     for flag in flags.iter_mut() {
         *flag = !*flag;
     }
+}
+
+// The flags that mark what these don't, in their place.
+fn turned_over(flags: Vec<bool>) -> Vec<bool>
+    ensures { AreTurnedOver flags.items result.items }
+{
+    let mut turned = flags;
+    turn_over(&mut turned);
+    turned
 }
 
 // Trims a full cut.
@@ -61,172 +85,154 @@ fn take_cut(
     Ok(())
 }
 
-// Makes the flags of the full cut of those of a tree of the faces.
-fn choose_full(mesh: &HalfMesh, flags: &mut [bool])
-    requires flags { length flags.old ≡ edge_count mesh.now }
-    requires held { IsHeld mesh.now flags.old }
-    ensures chosen { IsChosenCut mesh.now flags.old full flags.new }
-{
-    mesh.law_of_surface();
-    turn_over(flags);
-}
-
-// Makes the flags of the trimmed cut of those of a tree of the faces: while more than two edges
-// are cut and a vertex has exactly one of them, the greatest such vertex loses it.
-fn choose_trimmed(alloc: Global, mesh: &HalfMesh, flags: &mut [bool]) -> Result<(), NoMemory>
-    requires flags { length flags.old ≡ edge_count mesh.now }
-    requires held { IsHeld mesh.now flags.old }
-    ensures chosen { OnOk result (IsChosenCut mesh.now flags.old trimmed flags.new) }
-{
-    mesh.law_of_surface();
-    turn_over(flags);
-    trim_cut(alloc, mesh, flags)?;
-    Ok(())
-}
-
-// Makes the flags of the cut through some vertices of those of a tree of the faces.
-fn choose_through(
-    alloc: Global,
-    mesh: &HalfMesh,
-    flags: &mut [bool],
-    points: &[VertexId],
-) -> Result<(), CutFault>
-    requires flags { length flags.old ≡ edge_count mesh.now }
-    requires held { IsHeld mesh.now flags.old }
-    requires points { All (λ v. v < mesh.now.vertices) points.now }
-    ensures chosen { OnOk result (IsChosenCut mesh.now flags.old (through points.now) flags.new) }
-    ensures near { IfErr result (λ e. e ≡ CutFault.Near →
-        IsNearFor mesh.now flags.old (through points.now)) }
-{
-    mesh.law_of_surface();
-    turn_over(flags);
-    take_cut(alloc, mesh, flags, points)?;
-    if count_cut(flags) < 2 {
-        return Err(CutFault::Near);
+impl<'a> HeldTree<'a> {
+    /// The tree of the faces of a surface that the flags mark.
+    pub(crate) fn of(mesh: &'a HalfMesh, flags: Vec<bool>) -> HeldTree<'a>
+        requires { IsHeldTree mesh.now flags.items }
+        ensures { result ≡ record { mesh = mesh.now; marks = flags.items } }
+    {
+        HeldTree { mesh, flags }
     }
-    Ok(())
-}
 
-// Makes the flags of a cut of those of a tree of the faces.
-fn choose_cut(
-    alloc: Global,
-    mesh: &HalfMesh,
-    flags: &mut [bool],
-    kind: CutKind,
-) -> Result<(), CutFault>
-    requires flags { length flags.old ≡ edge_count mesh.now }
-    requires held { IsHeld mesh.now flags.old }
-    requires points { All (λ v. v < mesh.now.vertices) (points_of (kind_of kind)) }
-    ensures chosen { OnOk result (IsChosenCut mesh.now flags.old (kind_of kind) flags.new) }
-    ensures near { IfErr result (λ e. e ≡ CutFault.Near →
-        IsNearFor mesh.now flags.old (kind_of kind)) }
-{
-    match kind {
-        CutKind::Full => choose_full(mesh, flags),
-        CutKind::Trimmed => choose_trimmed(alloc, mesh, flags)?,
-        CutKind::Through(points) => choose_through(alloc, mesh, flags, &points)?,
+    // What is true of the surface and the tree. A caller whose proof rests on that calls it; it does
+    // nothing.
+    fn law_of_held(&self)
+        ensures surface { IsSurface self.now.mesh }
+        ensures held { IsHeld self.now.mesh self.now.marks }
+    {
+        self.mesh.law_of_surface();
     }
-    Ok(())
+
+    // The cut along all edges that the tree doesn't hold, with its flags in place of the tree's.
+    fn full_cut(self) -> DiscCut<'a>
+        ensures mesh { result.mesh ≡ self.entry.mesh }
+        ensures chosen { IsChosenCut self.entry.mesh self.entry.marks full result.marks }
+    {
+        let HeldTree { mesh, flags } = self;
+        mesh.law_of_surface();
+        let cut = turned_over(flags);
+        DiscCut::of(mesh, cut)
+    }
+
+    // The trimmed cut: while more than two edges are cut and a vertex has exactly one of them, the
+    // greatest such vertex loses it.
+    fn trimmed_cut(self, alloc: Global) -> Result<DiscCut<'a>, NoMemory>
+        ensures mesh { IfOk result (λ cut. cut.mesh ≡ self.entry.mesh) }
+        ensures chosen { IfOk result (λ cut.
+            IsChosenCut self.entry.mesh self.entry.marks trimmed cut.marks) }
+    {
+        let HeldTree { mesh, flags } = self;
+        let mut cut = turned_over(flags);
+        trim_cut(alloc, mesh, &mut cut)?;
+        mesh.law_of_surface();
+        Ok(DiscCut::of(mesh, cut))
+    }
+
+    // The cut through some vertices.
+    fn cut_at(self, alloc: Global, points: &[VertexId]) -> Result<DiscCut<'a>, CutFault>
+        requires { All (λ v. v < self.mesh.vertices) points.now }
+        ensures mesh { IfOk result (λ cut. cut.mesh ≡ self.entry.mesh) }
+        ensures chosen { IfOk result (λ cut.
+            IsChosenCut self.entry.mesh self.entry.marks (through points.now) cut.marks) }
+        ensures near { IfErr result (λ e. e ≡ CutFault.Near →
+            IsNearFor self.entry.mesh self.entry.marks (through points.now)) }
+    {
+        let HeldTree { mesh, flags } = self;
+        mesh.law_of_surface();
+        let mut cut = turned_over(flags);
+        take_cut(alloc, mesh, &mut cut, points)?;
+        if count_cut(&cut) < 2 {
+            return Err(CutFault::Near);
+        }
+        Ok(DiscCut::of(mesh, cut))
+    }
+
+    // The cut of a kind.
+    fn cut_of(self, alloc: Global, kind: CutKind) -> Result<DiscCut<'a>, CutFault>
+        requires { All (λ v. v < self.mesh.vertices) (points_of (kind_of kind)) }
+        ensures mesh { IfOk result (λ cut. cut.mesh ≡ self.entry.mesh) }
+        ensures chosen { IfOk result (λ cut.
+            IsChosenCut self.entry.mesh self.entry.marks (kind_of kind) cut.marks) }
+        ensures near { IfErr result (λ e. e ≡ CutFault.Near →
+            IsNearFor self.entry.mesh self.entry.marks (kind_of kind)) }
+    {
+        match kind {
+            CutKind::Full => Ok(self.full_cut()),
+            CutKind::Trimmed => {
+                let cut = self.trimmed_cut(alloc)?;
+                Ok(cut)
+            }
+            CutKind::Through(points) => self.cut_at(alloc, &points),
+        }
+    }
 }
 
-// The disc that the surface is opened to along the edges with a flag.
-fn open_cut(alloc: Global, mesh: &HalfMesh, cut: &[bool]) -> Result<OpenDisc, NoMemory>
-    requires flags { length cut.now ≡ edge_count mesh.now }
-    requires opens { OpensToDisc mesh.now cut.now }
-    ensures opened { IfOk result (λ o. IsOpenedInOrder mesh.now cut.now o) }
-    ensures corners { IfOk result (λ o. sum_by length o.faces ≡ side_count mesh.now) }
+// The disc to which a surface is opened, with its border.
+fn open_bordered(alloc: Global, cut: &DiscCut<'_>) -> Result<Opened, NoMemory>
+    ensures { IfOk result (λ o. IsOpenedInOrder cut.now.mesh cut.now.marks o) }
 {
-    mesh.law_of_surface();
-    let (origins, faces) = open_along(alloc, mesh, cut)?;
-    Ok(OpenDisc::from_parts(origins, faces))
-}
-
-// The same disc with its border.
-fn open_bordered(alloc: Global, mesh: &HalfMesh, cut: &[bool]) -> Result<Opened, NoMemory>
-    requires flags { length cut.now ≡ edge_count mesh.now }
-    requires opens { OpensToDisc mesh.now cut.now }
-    ensures opened { IfOk result (λ o. IsOpenedInOrder mesh.now cut.now o) }
-{
-    let disc = open_cut(alloc, mesh, cut)?;
-    let copies = disc.origins().len() as u32;
-    let boundary = boundary_along(alloc, mesh, cut, copies, disc.faces())?;
+    let disc = cut.open(alloc)?;
+    let boundary = boundary_along(alloc, cut, &disc)?;
     Ok(Opened::from_parts(disc, boundary))
 }
 
-/// The surface cut along all edges that a tree of its faces doesn't hold, with its border. There is
-/// a flag for each edge that the tree holds; the flags become those of the cut.
-pub(crate) fn open_full(
-    alloc: Global,
-    mesh: &HalfMesh,
-    flags: &mut [bool],
-) -> Result<Opened, NoMemory>
-    requires flags { length flags.old ≡ edge_count mesh.now }
-    requires held { IsHeld mesh.now flags.old }
-    ensures chosen { IfOk result (λ o. IsChosenFor mesh.now flags.old full o) }
-    ensures opening { IfOk result (λ o. IsOpening mesh.now o.origins o.faces) }
+/// The surface cut along all edges that a tree of its faces doesn't hold, with its border.
+pub(crate) fn open_full(alloc: Global, held: HeldTree<'_>) -> Result<Opened, NoMemory>
+    ensures chosen { IfOk result (λ o. IsChosenFor held.entry.mesh held.entry.marks full o) }
+    ensures opening { IfOk result (λ o. IsOpening held.entry.mesh o.origins o.faces) }
 {
-    mesh.law_of_surface();
-    choose_full(mesh, flags);
-    open_bordered(alloc, mesh, flags)
+    held.law_of_held();
+    let cut = held.full_cut();
+    open_bordered(alloc, &cut)
 }
 
 /// The same along the trimmed cut.
-pub(crate) fn open_trimmed(
-    alloc: Global,
-    mesh: &HalfMesh,
-    flags: &mut [bool],
-) -> Result<Opened, NoMemory>
-    requires flags { length flags.old ≡ edge_count mesh.now }
-    requires held { IsHeld mesh.now flags.old }
-    ensures chosen { IfOk result (λ o. IsChosenFor mesh.now flags.old trimmed o) }
-    ensures opening { IfOk result (λ o. IsOpening mesh.now o.origins o.faces) }
+pub(crate) fn open_trimmed(alloc: Global, held: HeldTree<'_>) -> Result<Opened, NoMemory>
+    ensures chosen { IfOk result (λ o. IsChosenFor held.entry.mesh held.entry.marks trimmed o) }
+    ensures opening { IfOk result (λ o. IsOpening held.entry.mesh o.origins o.faces) }
 {
-    mesh.law_of_surface();
-    choose_trimmed(alloc, mesh, flags)?;
-    open_bordered(alloc, mesh, flags)
+    held.law_of_held();
+    let cut = held.trimmed_cut(alloc)?;
+    open_bordered(alloc, &cut)
 }
 
 /// The same along the cut through some vertices.
 pub(crate) fn open_through(
     alloc: Global,
-    mesh: &HalfMesh,
-    flags: &mut [bool],
+    held: HeldTree<'_>,
     points: &[VertexId],
 ) -> Result<Opened, CutFault>
-    requires flags { length flags.old ≡ edge_count mesh.now }
-    requires held { IsHeld mesh.now flags.old }
-    requires points { All (λ v. v < mesh.now.vertices) points.now }
-    ensures chosen { IfOk result (λ o. IsChosenFor mesh.now flags.old (through points.now) o) }
-    ensures opening { IfOk result (λ o. IsOpening mesh.now o.origins o.faces) }
+    requires { All (λ v. v < held.mesh.vertices) points.now }
+    ensures chosen { IfOk result (λ o.
+        IsChosenFor held.entry.mesh held.entry.marks (through points.now) o) }
+    ensures opening { IfOk result (λ o. IsOpening held.entry.mesh o.origins o.faces) }
     ensures border { IfOk result (λ o. HaveCopiesOnBorder (through points.now) o.origins
         o.faces) }
     ensures near { IfErr result (λ e. e ≡ CutFault.Near →
-        IsNearFor mesh.now flags.old (through points.now)) }
+        IsNearFor held.entry.mesh held.entry.marks (through points.now)) }
 {
-    mesh.law_of_surface();
-    choose_through(alloc, mesh, flags, points)?;
-    let opened = open_bordered(alloc, mesh, flags)?;
+    held.law_of_held();
+    let cut = held.cut_at(alloc, points)?;
+    let opened = open_bordered(alloc, &cut)?;
     Ok(opened)
 }
 
 /// The disc that the surface is opened to along a cut of any kind.
 pub(crate) fn open_disc(
     alloc: Global,
-    mesh: &HalfMesh,
-    flags: &mut [bool],
+    held: HeldTree<'_>,
     kind: CutKind,
 ) -> Result<OpenDisc, CutFault>
-    requires flags { length flags.old ≡ edge_count mesh.now }
-    requires held { IsHeld mesh.now flags.old }
-    requires points { All (λ v. v < mesh.now.vertices) (points_of (kind_of kind)) }
-    ensures chosen { IfOk result (λ o. IsChosenFor mesh.now flags.old (kind_of kind) o) }
-    ensures opening { IfOk result (λ o. IsOpening mesh.now o.origins o.faces) }
+    requires { All (λ v. v < held.mesh.vertices) (points_of (kind_of kind)) }
+    ensures chosen { IfOk result (λ o.
+        IsChosenFor held.entry.mesh held.entry.marks (kind_of kind) o) }
+    ensures opening { IfOk result (λ o. IsOpening held.entry.mesh o.origins o.faces) }
     ensures border { IfOk result (λ o. HaveCopiesOnBorder (kind_of kind) o.origins o.faces) }
     ensures near { IfErr result (λ e. e ≡ CutFault.Near →
-        IsNearFor mesh.now flags.old (kind_of kind)) }
+        IsNearFor held.entry.mesh held.entry.marks (kind_of kind)) }
 {
-    mesh.law_of_surface();
-    choose_cut(alloc, mesh, flags, kind)?;
-    let opened = open_cut(alloc, mesh, flags)?;
+    held.law_of_held();
+    let cut = held.cut_of(alloc, kind)?;
+    let opened = cut.open(alloc)?;
     Ok(opened)
 }

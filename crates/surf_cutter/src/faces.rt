@@ -1,6 +1,6 @@
 //! The faces of an opened surface.
 ghost use Rattle.std.specs.Prelude.{◌≡◌, ◌<◌, ◌+◌, [], length, take, IfOk, slice_index_or};
-ghost use Rattle.std.specs.List.{flat_map, sum_by};
+ghost use Rattle.std.specs.List.{flat_map};
 ghost use Rattle.surf_surfaces.specs.Surface.{face_count};
 ghost use Rattle.surf_surfaces.specs.SideNumber.{side_count};
 ghost use Rattle.surf_cutter.specs.Faces.{AreRowsOf, AreStartsTo};
@@ -55,7 +55,6 @@ impl OpenFaces {
     ) -> Result<OpenFaces, NoMemory>
         requires { length corners.items ≡ side_count mesh.now }
         ensures rows { IfOk result (λ faces. AreRowsOf mesh.now corners.items faces) }
-        ensures corners { IfOk result (λ faces. sum_by length faces ≡ side_count mesh.now) }
     {
         let starts = starts_of(alloc, mesh)?;
         Ok(OpenFaces { corners, starts })

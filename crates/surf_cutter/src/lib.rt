@@ -15,6 +15,7 @@ mod along_tree;
 mod border;
 mod copies;
 mod cutting;
+mod disc_cut;
 mod faces;
 mod kind;
 mod opened;

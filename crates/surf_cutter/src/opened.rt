@@ -38,8 +38,15 @@ impl OpenDisc {
         OpenDisc { origins, faces }
     }
 
+    // How many copies there are.
+    pub(crate) fn copies(&self) -> u32
+        ensures { result ≡ length self.now.origins }
+    {
+        self.origins.len() as u32
+    }
+
     // Its faces.
-    pub(crate) fn faces(&self) -> &OpenFaces
+    fn faces(&self) -> &OpenFaces
         ensures { result.now ≡ self.now.faces }
     {
         &self.faces

@@ -1,7 +1,6 @@
 //! Taking a cut back to given vertices: edges that end where no other cut edge goes on are taken out
 //! of it, but for those that end at one of the vertices.
 ghost use Rattle.std.specs.Prelude.{◌≡◌, ◌<◌, ◌+◌, All, IfOk, length};
-ghost use Rattle.surf_surfaces.specs.Surface.{edge_count};
 ghost use Rattle.surf_cutter.specs.Trimming.{AreDegrees, AreMarked, IsTakenFrom, HasNoLooseBelow};
 ghost use Rattle.surf_cutter.specs.Trimming.{HasMarkedEnds};
 
@@ -29,7 +28,6 @@ pub(crate) fn mark_points(
 // Takes edges back from a vertex on, as long as it has exactly one and no mark, and its other end
 // after it.
 fn take_from(mesh: &HalfMesh, marks: &[bool], cut: &mut [bool], degree: &mut [u32], start: VertexId)
-    requires flags { length cut.old ≡ edge_count mesh.now }
     requires degrees { AreDegrees mesh.now cut.old degree.old }
     requires marks { length marks.now ≡ mesh.now.vertices }
     requires vertex { start < mesh.now.vertices }
@@ -46,7 +44,6 @@ fn take_from(mesh: &HalfMesh, marks: &[bool], cut: &mut [bool], degree: &mut [u3
 
 /// Takes a cut back: while a vertex without a mark has exactly one cut edge, it loses it.
 pub(crate) fn take_loose(mesh: &HalfMesh, marks: &[bool], cut: &mut [bool], degree: &mut [u32])
-    requires flags { length cut.old ≡ edge_count mesh.now }
     requires degrees { AreDegrees mesh.now cut.old degree.old }
     requires marks { length marks.now ≡ mesh.now.vertices }
     ensures taken { IsTakenFrom mesh.now marks.now cut.old cut.new }

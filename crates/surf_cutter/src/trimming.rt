@@ -104,7 +104,6 @@ pub(crate) fn take_back(
     degree: &mut [u32],
     leaf: VertexId,
 ) -> VertexId
-    requires flags { length cut.old ≡ edge_count mesh.now }
     requires degrees { AreDegrees mesh.now cut.old degree.old }
     requires vertex { leaf < mesh.now.vertices }
     requires one { slice_index degree.old leaf ≡ 1 }
@@ -128,7 +127,6 @@ fn trim_from(
     count: u32,
     low: VertexId,
 ) -> u32
-    requires flags { length cut.old ≡ edge_count mesh.now }
     requires degrees { AreDegrees mesh.now cut.old degree.old }
     requires count { count ≡ cut_count mesh.now (is_cut cut.old) }
     requires vertex { low < mesh.now.vertices }
@@ -155,7 +153,6 @@ fn trim_from(
 /// Trims a cut: while more than two edges are cut and a vertex has exactly one of them, the
 /// greatest such vertex loses it.
 pub(crate) fn trim(mesh: &HalfMesh, cut: &mut [bool], degree: &mut [u32])
-    requires flags { length cut.old ≡ edge_count mesh.now }
     requires degrees { AreDegrees mesh.now cut.old degree.old }
     ensures trimmed { IsTrimmedFrom mesh.now cut.old cut.new }
     ensures ended { HasEndedBy mesh.now cut.new }

@@ -98,10 +98,10 @@ row_across mesh s row r lt =
     let is : IsAcross mesh s (other_of xs s) = record {
       is_side = subst Q at.2 (side_below mesh p at.0 0 at.1);
       same_edge = ap (pair_at mesh) (sym at.2) ∙ with_pair mesh p at.0 at.1;
-      no_third = λ u below same.
+      no_third = λ u below same differs.
           let k = listed mesh p u below same in
           let both = other_only xs s own.0 k.0 few own.1 own.2 k.1 in
-          elim both [ inl e ↦ inl (sym k.2 ∙ e) | inr e ↦ inr (sym k.2 ∙ e) ];
+          elim both [ inl e ↦ absurd (differs (sym k.2 ∙ e)) | inr e ↦ sym k.2 ∙ e ];
     } in
     subst P (sym r.is_row) is
 

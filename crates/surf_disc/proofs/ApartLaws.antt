@@ -44,10 +44,7 @@ module _ (mesh : Mesh) (across : List ℕ) (acrosses : AreAcrossUpTo mesh (side_
       let is = acrosses.all s x.1.is_side in
       let t = get_or across s 0 in
       let P : ℕ → Type 0 = λ z. IsFaceOf mesh z g in
-      let other : y.0 ≡ t = elim (is.no_third y.0 y.1.is_side (y.1.its_pair ∙ sym x.1.its_pair)) [
-        | inl e ↦ absurd (differ (one_face mesh s f g own (subst P e y.1.its_face)))
-        | inr e ↦ e
-      ] in (
+      let other : y.0 ≡ t = is.no_third y.0 y.1.is_side (y.1.its_pair ∙ sym x.1.its_pair) (λ e. differ (one_face mesh s f g own (subst P e y.1.its_face))) in (
         m,
         omega (arith, are.row_len f lt),
         are.row_at f m lt in' ∙ ap (λ z. face_of mesh (get_or across z 0)) number

@@ -194,8 +194,10 @@ module _ (mesh : Mesh) (is_mesh : IsMesh mesh) (next prev across : List ℕ)
       let own = listed mesh p s lt refl in
       let some = own.1 in
       let only : (k : ℕ) → k < length xs →
-      get_or xs k 0 ≡ s = λ k in'. elim (a.no_third (get_or xs k 0) (side_below mesh p k 0 in')
-      (with_pair mesh p k in')) [ inl e ↦ e | inr e ↦ e ∙ alone ] in
+      get_or xs k 0 ≡ s = λ k in'. elim (cases_eq (get_or xs k 0) s) [
+        | inl e ↦ e
+        | inr differs ↦ a.no_third (get_or xs k 0) (side_below mesh p k 0 in') (with_pair mesh p k in') differs ∙ alone
+      ] in
       let one : length xs ≡ 1 = elim (cases_lt (length xs) 2) [
         | inl few ↦ omega arith
         | inr many ↦ absurd (let x = only 0 (omega arith) in let y = only 1

@@ -219,13 +219,14 @@ module _ (mesh : Mesh) (is_mesh : IsMesh mesh) (next prev across : List ℕ)
       let S : ℕ → Type 0 = λ z. IsSideAt z side in
       let side_at : IsSideAt s side = subst S at (side_at_end v side c.0 x.1.is_side c.1) in
       let across' = tables.acrosses.all side x.1.is_side in
-      elim (across'.no_third y.0 y.1.is_side (y.1.its_pair ∙ sym x.1.its_pair)) [
+      elim (cases_eq y.0 side) [
         | inl same ↦
             let P : ℕ → Type 0 = λ z. IsFaceOf mesh z g in
             let faces : f ≡ g = one_face mesh side f g x.1.its_face (subst P same y.1.its_face) in
             let Q : ℕ → Type 0 = λ z. IsCornerOf mesh v z s in
             inl (same_corner mesh is_mesh v g s t (subst Q faces a) b)
-        | inr same ↦
+        | inr differs ↦
+            let same = across'.no_third y.0 y.1.is_side (y.1.its_pair ∙ sym x.1.its_pair) differs in
             let P : ℕ → Type 0 = λ z. IsFaceOf mesh z g in
             let o = over_is v w side x.1.is_side x.1.its_pair in
             inr (

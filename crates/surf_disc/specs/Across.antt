@@ -1,5 +1,5 @@
 -- What lies across a side: the other side of its edge, or the side itself where it has no other.
-use Rattle.std.specs.Prelude.{◌≡◌, ℕ, ◌-◌, ◌<◌, ◌≤◌, ◌==◌, ◌⊎◌, if◌then◌else◌, List, length, get_or}
+use Rattle.std.specs.Prelude.{◌≡◌, ◌≢◌, ℕ, ◌-◌, ◌<◌, ◌≤◌, ◌==◌, if◌then◌else◌, List, length, get_or}
 use Rattle.surf_surfaces.specs.Mesh.{Mesh}
 use Rattle.surf_surfaces.specs.Surface.{edge_count}
 use Rattle.surf_soup.specs.Pairs.{degree}
@@ -17,7 +17,7 @@ other_of xs s = if get_or xs 0 0 == s then get_or xs (length xs - 1) 0 else get_
 pub record IsAcross (mesh : Mesh) (s t : ℕ) : Type 0 where
   pub is_side : t < side_count mesh
   pub same_edge : pair_at mesh t ≡ pair_at mesh s
-  pub no_third : (u : ℕ) → u < side_count mesh → pair_at mesh u ≡ pair_at mesh s → (u ≡ s) ⊎ (u ≡ t)
+  pub no_third : (u : ℕ) → u < side_count mesh → pair_at mesh u ≡ pair_at mesh s → u ≢ s → u ≡ t
 
 -- what lies across each of the first sides
 pub record AreAcrossUpTo (mesh : Mesh) (count : ℕ) (across : List ℕ) : Type 0 where

@@ -1,12 +1,11 @@
 //! What lies across each side.
 ghost use Rattle.std.specs.Prelude.{◌≡◌, ◌<◌, length, IfOk};
-ghost use Rattle.surf_soup.specs.EdgeTable.{IsTableOf};
 ghost use Rattle.surf_surfaces.specs.SideNumber.{side_count};
 ghost use Rattle.surf_disc.specs.Across.{NoneCrowded, AreAcrossUpTo, other_of};
 
+use crate::corners::TabledSoup;
 use std::alloc::Global;
 use surf_base::{NoMemory, SideId};
-use surf_soup::{EdgeTable, Soup};
 
 // The other one of a row of two sides, or the only one of a row of one.
 fn other_side(row: &[SideId], side: SideId) -> SideId
@@ -21,15 +20,13 @@ fn other_side(row: &[SideId], side: SideId) -> SideId
 }
 
 /// For each side the other side of its edge, or the side itself where it is on the border.
-pub(crate) fn all_across(
-    alloc: Global,
-    soup: &Soup,
-    table: &EdgeTable,
-) -> Result<Vec<SideId>, NoMemory>
-    requires table { IsTableOf soup.now table.now }
-    requires few { NoneCrowded soup.now }
-    ensures across { IfOk result (λ v. AreAcrossUpTo soup.now (side_count soup.now) v.items) }
+pub(crate) fn all_across(alloc: Global, tabled: &TabledSoup<'_>) -> Result<Vec<SideId>, NoMemory>
+    requires few { NoneCrowded tabled.now.soup.now }
+    ensures across { IfOk result (λ v.
+        AreAcrossUpTo tabled.now.soup.now (side_count tabled.now.soup.now) v.items) }
 {
+    let soup = tabled.soup;
+    let table = tabled.table;
     soup.law_of_soup();
     let count = soup.side_count();
     let mut across = Vec::with_capacity(alloc, count as usize)?;

@@ -2,16 +2,16 @@
 ghost use Rattle.std.specs.Prelude.{◌≡◌, ◌<◌, ◌≤◌, ◌+◌, ℕ, length, All, OnOk, IfOk, IfErr, slice_index};
 ghost use Rattle.surf_surfaces.specs.Surface.{face_count, IsConnected};
 ghost use Rattle.surf_soup.specs.Apart.{AreAcross};
-ghost use Rattle.surf_surfaces.specs.SideNumber.{side_count, owners};
 ghost use Rattle.surf_soup.specs.Vertices.{AllMet};
-ghost use Rattle.surf_disc.specs.Across.{NoneCrowded, AreAcrossUpTo};
+ghost use Rattle.surf_disc.specs.Across.{NoneCrowded};
 ghost use Rattle.surf_disc.specs.Fault.{AllFans, IsDiscFault};
 
 use crate::DiscFault;
+use crate::corners::CornerTables;
 use std::alloc::Global;
 use surf_base::{FaceId, NoMemory, SideId};
 use surf_rows::Rows;
-use surf_soup::{Soup, first_unmarked, reach};
+use surf_soup::{first_unmarked, reach};
 
 // Lists the faces across some sides that follow one another.
 fn list_over(
@@ -37,16 +37,13 @@ fn list_over(
 }
 
 // The faces across the sides of each face, in order.
-fn faces_over(
-    alloc: Global,
-    soup: &Soup,
-    across: &[SideId],
-    face_of: &[FaceId],
-) -> Result<Rows<u32>, NoMemory>
-    requires acrosses { AreAcrossUpTo soup.now (side_count soup.now) across.now }
-    requires faces { face_of.now ≡ owners 0 soup.now.faces }
-    ensures rows { IfOk result (λ rows. AreAcross soup.now across.now (face_count soup.now) rows) }
+fn faces_over(alloc: Global, corners: &CornerTables<'_>) -> Result<Rows<u32>, NoMemory>
+    ensures rows { IfOk result (λ rows. AreAcross corners.now.soup.now corners.now.across.now
+        (face_count corners.now.soup.now) rows) }
 {
+    let soup = corners.soup;
+    let across = corners.across;
+    let face_of = corners.face_of;
     soup.law_of_soup();
     let ends = Vec::with_capacity(alloc, soup.faces() as usize)?;
     let mut rows = Rows::in_room(Vec::with_capacity(alloc, across.len())?, ends);
@@ -62,24 +59,17 @@ fn faces_over(
 }
 
 /// Refuses a soup where some face isn't connected with face 0.
-pub(crate) fn refuse_apart(
-    alloc: Global,
-    soup: &Soup,
-    across: &[SideId],
-    face_of: &[FaceId],
-) -> Result<(), DiscFault>
-    requires none_crowded { NoneCrowded soup.now }
-    requires met { AllMet soup.now }
-    requires fans { AllFans soup.now }
-    requires acrosses { AreAcrossUpTo soup.now (side_count soup.now) across.now }
-    requires faces { face_of.now ≡ owners 0 soup.now.faces }
-    ensures ok { OnOk result (IsConnected soup.now) }
-    ensures fault { IfErr result (λ e. IsDiscFault soup.now e) }
+pub(crate) fn refuse_apart(alloc: Global, corners: &CornerTables<'_>) -> Result<(), DiscFault>
+    requires none_crowded { NoneCrowded corners.now.soup.now }
+    requires met { AllMet corners.now.soup.now }
+    requires fans { AllFans corners.now.soup.now }
+    ensures ok { OnOk result (IsConnected corners.now.soup.now) }
+    ensures fault { IfErr result (λ e. IsDiscFault corners.now.soup.now e) }
 {
-    if soup.faces() == 0 {
+    if corners.soup.faces() == 0 {
         return Ok(());
     }
-    let rows = faces_over(alloc, soup, across, face_of)?;
+    let rows = faces_over(alloc, corners)?;
     let seen = reach(alloc, &rows, 0)?;
     match first_unmarked(&seen) {
         None => Ok(()),

@@ -1,23 +1,21 @@
 //! The border: the edges with one face, and whether they are one cycle.
-ghost use Rattle.std.specs.Prelude.{◌≡◌, ◌≢◌, ◌<◌, ◌==◌, ◌^◌, ℕ, length, map, All, OnOk, IfOk, IfErr, MatchOption};
+ghost use Rattle.std.specs.Prelude.{◌≡◌, ◌≢◌, ◌<◌, ◌==◌, ◌^◌, ℕ, length, All, OnOk, IfOk, IfErr, MatchOption};
 ghost use Rattle.std.specs.Prelude.{slice_index, slice_index_or, [], true, false, count_by};
-ghost use Rattle.std.specs.List.{range_with_len, flat_map};
+ghost use Rattle.std.specs.List.{flat_map};
 ghost use Rattle.surf_surfaces.specs.Disc.{IsBorderEdge};
-ghost use Rattle.surf_soup.specs.EdgeTable.{IsTableOf};
 ghost use Rattle.surf_soup.specs.Reach.{marked};
-ghost use Rattle.surf_soup.specs.Vertices.{all_corners, sides_at};
+ghost use Rattle.surf_soup.specs.Vertices.{all_corners};
 ghost use Rattle.surf_disc.specs.Border.{with_end, border_ends, AreNeighbours, IsLeastOnBorder, IsBorderMarked};
 ghost use Rattle.surf_disc.specs.Border.{HasOneBorder, AllInside, IsFirstOutside};
 ghost use Rattle.surf_disc.specs.Fault.{IsPatch, IsDiscFault};
-ghost use Rattle.surf_disc.specs.Links.{AreCornerTables};
 ghost use Rattle.surf_disc.specs.declared.faults.DiscFault.TheVariants.{Memory};
 
-use crate::corners::CornerTables;
+use crate::corners::{CornerTables, TabledSoup};
 use crate::{BorderKind, DiscFault};
 use std::alloc::Global;
 use surf_base::{EdgeId, NoMemory, SideId, VertexId};
 use surf_rows::Rows;
-use surf_soup::{EdgeTable, Soup, first_row, reach};
+use surf_soup::{first_row, reach};
 
 // Adds the other end of a side that has nothing across it.
 fn push_end(
@@ -65,19 +63,16 @@ fn list_ends(
 }
 
 // The other ends of the border edges at each vertex.
-fn border_rows(
-    alloc: Global,
-    soup: &Soup,
-    next: &[SideId],
-    prev: &[SideId],
-    across: &[SideId],
-    at_vertex: &Rows<SideId>,
-) -> Result<Rows<u32>, NoMemory>
-    requires tables { AreCornerTables soup.now next.now prev.now across.now }
-    requires rows { at_vertex.now ≡ map (sides_at soup.now) (range_with_len 0 soup.now.vertices) }
-    ensures rows { IfOk result (λ rows. AreNeighbours soup.now
-        next.now prev.now across.now (all_corners soup.now) soup.now.vertices rows) }
+fn border_rows(alloc: Global, corners: &CornerTables<'_>) -> Result<Rows<u32>, NoMemory>
+    ensures rows { IfOk result (λ rows. AreNeighbours corners.now.soup.now
+        corners.now.next.now corners.now.prev.now corners.now.across.now
+        (all_corners corners.now.soup.now) corners.now.soup.now.vertices rows) }
 {
+    let soup = corners.soup;
+    let next = corners.next;
+    let prev = corners.prev;
+    let across = corners.across;
+    let at_vertex = corners.at_vertex;
     soup.law_of_soup();
     let tails = soup.corners();
     let ends = Vec::with_capacity(alloc, at_vertex.len())?;
@@ -98,13 +93,12 @@ fn border_rows(
 }
 
 /// The least border edge.
-pub(crate) fn least_border(soup: &Soup, table: &EdgeTable) -> Option<EdgeId>
-    requires table { IsTableOf soup.now table.now }
-    ensures least { MatchOption result ((e : ℕ) → IsBorderEdge soup.now e → ⊥)
-        (λ e. IsLeastOnBorder soup.now e) }
+pub(crate) fn least_border(tabled: &TabledSoup<'_>) -> Option<EdgeId>
+    ensures least { MatchOption result ((e : ℕ) → IsBorderEdge tabled.now.soup.now e → ⊥)
+        (λ e. IsLeastOnBorder tabled.now.soup.now e) }
 {
-    soup.law_of_soup();
-    match first_row(&table.sides, 1, 1) {
+    tabled.soup.law_of_soup();
+    match first_row(&tabled.table.sides, 1, 1) {
         None => None,
         Some(e) => Some(EdgeId::new(e as u32)),
     }
@@ -113,29 +107,17 @@ pub(crate) fn least_border(soup: &Soup, table: &EdgeTable) -> Option<EdgeId>
 /// Marks the vertices of the cycle of border edges through the least one.
 pub(crate) fn mark_border(
     alloc: Global,
-    soup: &Soup,
-    table: &EdgeTable,
     corners: &CornerTables<'_>,
     least: EdgeId,
 ) -> Result<Vec<bool>, NoMemory>
-    requires table { IsTableOf soup.now table.now }
-    requires tables { AreCornerTables soup.now
-        corners.now.next.now corners.now.prev.now corners.now.across.now }
-    requires rows { corners.now.at_vertex.now
-        ≡ map (sides_at soup.now) (range_with_len 0 soup.now.vertices) }
-    requires least { IsLeastOnBorder soup.now least }
-    ensures marks { IfOk result (λ seen. IsBorderMarked soup.now least seen.items) }
+    requires least { IsLeastOnBorder corners.now.soup.now least }
+    ensures marks { IfOk result (λ seen. IsBorderMarked corners.now.soup.now least seen.items) }
 {
+    let soup = corners.soup;
+    let table = corners.table;
     soup.law_of_soup();
     let (low, _) = table.edges[least.index()];
-    let rows = border_rows(
-        alloc,
-        soup,
-        corners.next,
-        corners.prev,
-        corners.across,
-        corners.at_vertex,
-    )?;
+    let rows = border_rows(alloc, corners)?;
     let seen = reach(alloc, &rows, low.number())?;
     Ok(seen)
 }
@@ -165,19 +147,19 @@ fn first_outside(
 
 /// Refuses a soup where some border edge is outside the cycle of the least one.
 pub(crate) fn refuse_second(
-    soup: &Soup,
-    table: &EdgeTable,
+    tabled: &TabledSoup<'_>,
     e: EdgeId,
     seen: &[bool],
 ) -> Result<(), DiscFault>
-    requires table { IsTableOf soup.now table.now }
-    requires patch { IsPatch soup.now }
-    requires least { IsLeastOnBorder soup.now e }
-    requires marks { IsBorderMarked soup.now e seen.now }
-    ensures one { OnOk result (HasOneBorder soup.now) }
-    ensures fault { IfErr result (λ e. IsDiscFault soup.now e) }
+    requires patch { IsPatch tabled.now.soup.now }
+    requires least { IsLeastOnBorder tabled.now.soup.now e }
+    requires marks { IsBorderMarked tabled.now.soup.now e seen.now }
+    ensures one { OnOk result (HasOneBorder tabled.now.soup.now) }
+    ensures fault { IfErr result (λ e. IsDiscFault tabled.now.soup.now e) }
     ensures sure { IfErr result (λ e. e ≢ Memory) }
 {
+    let soup = tabled.soup;
+    let table = tabled.table;
     soup.law_of_soup();
     if let Some(h) = first_outside(&table.sides, &table.edges, seen) {
         let (u, v) = table.edges[e.index()];

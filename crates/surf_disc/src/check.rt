@@ -2,7 +2,6 @@
 ghost use Rattle.std.specs.Prelude.{◌≡◌, ◌≢◌, ◌+◌, ◌<◌, ℕ, OnOk, IfOk, IfErr};
 ghost use Rattle.surf_surfaces.specs.Disc.{IsDisc, IsBorderEdge};
 ghost use Rattle.surf_surfaces.specs.Surface.{face_count, edge_count};
-ghost use Rattle.surf_soup.specs.EdgeTable.{IsTableOf};
 ghost use Rattle.surf_soup.specs.Pairs.{IsFirstWithin};
 ghost use Rattle.surf_soup.specs.Vertices.{AllMet};
 ghost use Rattle.surf_disc.specs.Across.{NoneCrowded};
@@ -13,22 +12,23 @@ ghost use Rattle.surf_disc.specs.declared.faults.DiscFault.TheVariants.{Memory};
 use crate::across::all_across;
 use crate::apart::refuse_apart;
 use crate::border::{count_single, least_border, mark_border, refuse_second};
-use crate::corners::CornerTables;
+use crate::corners::{CornerTables, TabledSoup};
 use crate::fans::refuse_pinched;
 use crate::{BorderKind, DiscFault};
 use std::alloc::Global;
 use surf_soup::{
-    EdgeTable, Soup, Turn, edge_table, face_in, find_isolated, first_row, first_sides,
-    turned_sides, vertex_sides,
+    Soup, Turn, edge_table, face_in, find_isolated, first_row, first_sides, turned_sides,
+    vertex_sides,
 };
 
 // The fault at an edge with many sides.
-fn crowd_at(soup: &Soup, table: &EdgeTable, e: usize) -> DiscFault
-    requires table { IsTableOf soup.now table.now }
-    requires first { IsFirstWithin 3 usize.MAX table.now.sides e }
-    ensures fault { IsDiscFault soup.now result }
+fn crowd_at(tabled: &TabledSoup<'_>, e: usize) -> DiscFault
+    requires first { IsFirstWithin 3 usize.MAX tabled.now.table.now.sides e }
+    ensures fault { IsDiscFault tabled.now.soup.now result }
     ensures sure { result ≢ Memory }
 {
+    let soup = tabled.soup;
+    let table = tabled.table;
     soup.law_of_soup();
     let (u, v) = table.edges[e];
     let row = table.sides.row(e);
@@ -43,15 +43,14 @@ fn crowd_at(soup: &Soup, table: &EdgeTable, e: usize) -> DiscFault
 }
 
 // Refuses a soup where some edge is a side of three or more faces.
-fn refuse_crowded(soup: &Soup, table: &EdgeTable) -> Result<(), DiscFault>
-    requires table { IsTableOf soup.now table.now }
-    ensures ok { OnOk result (NoneCrowded soup.now) }
-    ensures fault { IfErr result (λ e. IsDiscFault soup.now e) }
+fn refuse_crowded(tabled: &TabledSoup<'_>) -> Result<(), DiscFault>
+    ensures ok { OnOk result (NoneCrowded tabled.now.soup.now) }
+    ensures fault { IfErr result (λ e. IsDiscFault tabled.now.soup.now e) }
     ensures sure { IfErr result (λ e. e ≢ Memory) }
 {
-    soup.law_of_soup();
-    if let Some(e) = first_row(&table.sides, 3, usize::MAX) {
-        return Err(crowd_at(soup, table, e));
+    tabled.soup.law_of_soup();
+    if let Some(e) = first_row(&tabled.table.sides, 3, usize::MAX) {
+        return Err(crowd_at(tabled, e));
     }
     Ok(())
 }
@@ -71,15 +70,17 @@ fn refuse_isolated(alloc: Global, soup: &Soup) -> Result<(), DiscFault>
 }
 
 // Refuses a soup whose vertices minus edges plus faces aren't 1.
-fn refuse_count(soup: &Soup, table: &EdgeTable) -> Result<(), DiscFault>
-    requires table { IsTableOf soup.now table.now }
-    requires patch { IsPatch soup.now }
-    requires border { (e : ℕ) × IsBorderEdge soup.now e }
-    requires one { HasOneBorder soup.now }
-    ensures ok { OnOk result (soup.now.vertices + face_count soup.now ≡ edge_count soup.now + 1) }
-    ensures fault { IfErr result (λ e. IsDiscFault soup.now e) }
+fn refuse_count(tabled: &TabledSoup<'_>) -> Result<(), DiscFault>
+    requires patch { IsPatch tabled.now.soup.now }
+    requires border { (e : ℕ) × IsBorderEdge tabled.now.soup.now e }
+    requires one { HasOneBorder tabled.now.soup.now }
+    ensures ok { OnOk result (tabled.now.soup.now.vertices + face_count tabled.now.soup.now
+        ≡ edge_count tabled.now.soup.now + 1) }
+    ensures fault { IfErr result (λ e. IsDiscFault tabled.now.soup.now e) }
     ensures sure { IfErr result (λ e. e ≢ Memory) }
 {
+    let soup = tabled.soup;
+    let table = tabled.table;
     soup.law_of_soup();
     let vertices = soup.vertices();
     let edges = table.edges.len() as u32;
@@ -102,28 +103,35 @@ fn find_fault(alloc: Global, soup: &Soup) -> Result<u32, DiscFault>
 {
     soup.law_of_soup();
     let table = edge_table(alloc, soup)?;
-    refuse_crowded(soup, &table)?;
+    let tabled = TabledSoup {
+        soup,
+        table: &table,
+    };
+    refuse_crowded(&tabled)?;
     refuse_isolated(alloc, soup)?;
     let at_vertex = vertex_sides(alloc, soup, &table.numbers)?;
     let next = turned_sides(alloc, soup, Turn::After)?;
     let prev = turned_sides(alloc, soup, Turn::Before)?;
-    let across = all_across(alloc, soup, &table)?;
+    let across = all_across(alloc, &tabled)?;
     let corners = CornerTables {
+        soup,
+        table: &table,
         next: &next,
         prev: &prev,
         across: &across,
+        face_of: &table.face_of,
         at_vertex: &at_vertex,
     };
-    refuse_pinched(alloc, soup, &corners, &table.face_of)?;
-    refuse_apart(alloc, soup, &across, &table.face_of)?;
-    let Some(least) = least_border(soup, &table) else {
+    refuse_pinched(alloc, &corners)?;
+    refuse_apart(alloc, &corners)?;
+    let Some(least) = least_border(&tabled) else {
         return Err(DiscFault::Border {
             kind: BorderKind::Nothing,
         });
     };
-    let seen = mark_border(alloc, soup, &table, &corners, least)?;
-    refuse_second(soup, &table, least, &seen)?;
-    refuse_count(soup, &table)?;
+    let seen = mark_border(alloc, &corners, least)?;
+    refuse_second(&tabled, least, &seen)?;
+    refuse_count(&tabled)?;
     Ok(count_single(&table.sides))
 }
 

@@ -1,11 +1,10 @@
 //! Whether the faces at each vertex are connected through the sides that end there.
-ghost use Rattle.std.specs.Prelude.{◌≡◌, ◌≢◌, ◌<◌, ◌^◌, ℕ, length, map, All, IfOk, OnOk, IfErr, slice_index};
+ghost use Rattle.std.specs.Prelude.{◌≡◌, ◌≢◌, ◌<◌, ◌^◌, ℕ, length, All, IfOk, OnOk, IfErr, slice_index};
 ghost use Rattle.std.specs.Prelude.{slice_index_or, []};
-ghost use Rattle.std.specs.List.{range_with_len};
-ghost use Rattle.surf_surfaces.specs.SideNumber.{side_count, owners};
-ghost use Rattle.surf_soup.specs.Vertices.{all_corners, sides_at, AllMet};
+ghost use Rattle.surf_surfaces.specs.SideNumber.{side_count};
+ghost use Rattle.surf_soup.specs.Vertices.{all_corners, AllMet};
 ghost use Rattle.surf_disc.specs.Across.{NoneCrowded};
-ghost use Rattle.surf_disc.specs.Links.{AreCornerTables, AreLinked, AreFirsts, AreFansMarked, over_corner};
+ghost use Rattle.surf_disc.specs.Links.{AreLinked, AreFirsts, AreFansMarked, over_corner};
 ghost use Rattle.surf_disc.specs.Fault.{AllFans, IsDiscFault};
 ghost use Rattle.surf_disc.specs.declared.faults.DiscFault.TheVariants.{Memory};
 
@@ -14,7 +13,7 @@ use crate::corners::CornerTables;
 use std::alloc::Global;
 use surf_base::{FaceId, NoMemory, SideId, VertexId};
 use surf_rows::Rows;
-use surf_soup::{Soup, face_in, first_left, reach};
+use surf_soup::{face_in, first_left, reach};
 
 // The corner at a vertex across a side that ends there.
 fn corner_across(
@@ -38,17 +37,15 @@ fn corner_across(
 }
 
 // For each corner the corners of its vertex across its two sides.
-fn link_corners(
-    alloc: Global,
-    soup: &Soup,
-    next: &[SideId],
-    prev: &[SideId],
-    across: &[SideId],
-) -> Result<Rows<u32>, NoMemory>
-    requires tables { AreCornerTables soup.now next.now prev.now across.now }
+fn link_corners(alloc: Global, corners: &CornerTables<'_>) -> Result<Rows<u32>, NoMemory>
     ensures rows { IfOk result (λ rows. AreLinked
-        next.now prev.now across.now (all_corners soup.now) (side_count soup.now) rows) }
+        corners.now.next.now corners.now.prev.now corners.now.across.now
+        (all_corners corners.now.soup.now) (side_count corners.now.soup.now) rows) }
 {
+    let soup = corners.soup;
+    let next = corners.next;
+    let prev = corners.prev;
+    let across = corners.across;
     soup.law_of_soup();
     let tails = soup.corners();
     let count = soup.side_count() as usize;
@@ -83,44 +80,32 @@ fn first_corners(alloc: Global, at_vertex: &Rows<SideId>) -> Result<Vec<u32>, No
 
 // Marks the corners whose faces are connected with the first face of their vertex: one walk from
 // a further row that leads to the first corner of each vertex.
-fn mark_fans(
-    alloc: Global,
-    soup: &Soup,
-    next: &[SideId],
-    prev: &[SideId],
-    across: &[SideId],
-    at_vertex: &Rows<SideId>,
-) -> Result<Vec<bool>, NoMemory>
-    requires tables { AreCornerTables soup.now next.now prev.now across.now }
-    requires rows { at_vertex.now ≡ map (sides_at soup.now) (range_with_len 0 soup.now.vertices) }
-    requires met { AllMet soup.now }
-    ensures fans { IfOk result (λ seen. AreFansMarked soup.now seen.items) }
+fn mark_fans(alloc: Global, corners: &CornerTables<'_>) -> Result<Vec<bool>, NoMemory>
+    requires met { AllMet corners.now.soup.now }
+    ensures fans { IfOk result (λ seen. AreFansMarked corners.now.soup.now seen.items) }
 {
+    let soup = corners.soup;
     soup.law_of_soup();
     let start = soup.side_count();
-    let mut rows = link_corners(alloc, soup, next, prev, across)?;
-    let firsts = first_corners(alloc, at_vertex)?;
+    let mut rows = link_corners(alloc, corners)?;
+    let firsts = first_corners(alloc, corners.at_vertex)?;
     rows.push(&firsts)?;
     let seen = reach(alloc, &rows, start)?;
     Ok(seen)
 }
 
 // Looks for the first vertex with a corner that isn't marked.
-fn refuse_unmarked(
-    soup: &Soup,
-    at_vertex: &Rows<SideId>,
-    face_of: &[FaceId],
-    seen: &[bool],
-) -> Result<(), DiscFault>
-    requires none_crowded { NoneCrowded soup.now }
-    requires met { AllMet soup.now }
-    requires rows { at_vertex.now ≡ map (sides_at soup.now) (range_with_len 0 soup.now.vertices) }
-    requires faces { face_of.now ≡ owners 0 soup.now.faces }
-    requires fans { AreFansMarked soup.now seen.now }
-    ensures ok { OnOk result (AllFans soup.now) }
-    ensures fault { IfErr result (λ e. IsDiscFault soup.now e) }
+fn refuse_unmarked(corners: &CornerTables<'_>, seen: &[bool]) -> Result<(), DiscFault>
+    requires none_crowded { NoneCrowded corners.now.soup.now }
+    requires met { AllMet corners.now.soup.now }
+    requires fans { AreFansMarked corners.now.soup.now seen.now }
+    ensures ok { OnOk result (AllFans corners.now.soup.now) }
+    ensures fault { IfErr result (λ e. IsDiscFault corners.now.soup.now e) }
     ensures sure { IfErr result (λ e. e ≢ Memory) }
 {
+    let soup = corners.soup;
+    let at_vertex = corners.at_vertex;
+    let face_of = corners.face_of;
     soup.law_of_soup();
     for v in 0..soup.vertices() {
         let row = at_vertex.row(v as usize);
@@ -138,30 +123,12 @@ fn refuse_unmarked(
 }
 
 /// Refuses a soup where the faces at some vertex aren't connected through the sides that end there.
-pub(crate) fn refuse_pinched(
-    alloc: Global,
-    soup: &Soup,
-    corners: &CornerTables<'_>,
-    face_of: &[FaceId],
-) -> Result<(), DiscFault>
-    requires none_crowded { NoneCrowded soup.now }
-    requires met { AllMet soup.now }
-    requires tables { AreCornerTables soup.now
-        corners.now.next.now corners.now.prev.now corners.now.across.now }
-    requires rows { corners.now.at_vertex.now
-        ≡ map (sides_at soup.now) (range_with_len 0 soup.now.vertices) }
-    requires faces { face_of.now ≡ owners 0 soup.now.faces }
-    ensures ok { OnOk result (AllFans soup.now) }
-    ensures fault { IfErr result (λ e. IsDiscFault soup.now e) }
+pub(crate) fn refuse_pinched(alloc: Global, corners: &CornerTables<'_>) -> Result<(), DiscFault>
+    requires none_crowded { NoneCrowded corners.now.soup.now }
+    requires met { AllMet corners.now.soup.now }
+    ensures ok { OnOk result (AllFans corners.now.soup.now) }
+    ensures fault { IfErr result (λ e. IsDiscFault corners.now.soup.now e) }
 {
-    let at_vertex = corners.at_vertex;
-    let seen = mark_fans(
-        alloc,
-        soup,
-        corners.next,
-        corners.prev,
-        corners.across,
-        at_vertex,
-    )?;
-    refuse_unmarked(soup, at_vertex, face_of, &seen)
+    let seen = mark_fans(alloc, corners)?;
+    refuse_unmarked(corners, &seen)
 }

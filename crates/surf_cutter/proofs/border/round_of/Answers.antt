@@ -1,23 +1,22 @@
-use Rattle.surf_surfaces.proofs.Common.{◌≡◌, ℕ, length, replicate, refl, sym, ap, ◌∙◌, subst, rules, length-replicate}
+use Rattle.surf_surfaces.proofs.Common.{◌≡◌, ℕ, replicate, ap, sym, ◌∙◌, subst, arith, rules, with_items_is}
 use Rattle.surf_base.specs.Tables.{nobody}
-use Rattle.surf_cutter.specs.Boundary.{over}
-use Rattle.surf_cutter.specs.Rims.{AreRimsTo, AreReaches, sides_of}
-use Rattle.surf_cutter.proofs.Rims.{rims_none, sides_none, reaches_none}
+use Rattle.surf_cutter.specs.Rims.{AreRims, AreReaches, sides_of}
 use Rattle.surf_cutter.proofs.border.round_of.Goals as goal
 
-pub round_by-requires-clause-none : goal.round_by-requires-clause-none
-round_by-requires-clause-none c =
-    let n = c.args.copies in
+pub fill_rims-requires : goal.fill_rims-requires
+fill_rims-requires c =
     let none : (ℕ × ℕ) × (ℕ × ℕ) = ((nobody, 0), (nobody, 0)) in
-    let own : c.deref_mut.result.now ≡ replicate n none = search rules in
-    let size : length c.deref_mut.result.now ≡ n = ap length own ∙ length-replicate n none in
-    let sides : sides_of c.deref_mut.result.now ≡ replicate n (nobody, nobody) = ap sides_of own ∙ sides_none n in
-    subst (λ m. AreRimsTo (over m c.args.faces.now) c.args.border.now 0 (sides_of c.deref_mut.result.now)) (sym size)
-    (subst (AreRimsTo (over n c.args.faces.now) c.args.border.now 0) (sym sides) (rims_none (over n c.args.faces.now) c.args.border.now n refl))
+    let own : c.deref_mut.result.now ≡ replicate c.copies-copies.result none = search rules in
+    own ∙ ap (λ n. replicate n none) c.copies-copies.ensures
 
-pub round_by-requires-clause-nowhere : goal.round_by-requires-clause-nowhere
-round_by-requires-clause-nowhere c =
-    let n = c.args.copies in
-    let none : (ℕ × ℕ) × (ℕ × ℕ) = ((nobody, 0), (nobody, 0)) in
-    let own : c.deref_mut.result.now ≡ replicate n none = search rules in
-    subst (AreReaches (over (length c.deref_mut.result.now) c.args.faces.now)) (sym own) (reaches_none (over (length c.deref_mut.result.now) c.args.faces.now) n)
+pub go_round-requires-clause-rims : goal.go_round-requires-clause-rims
+go_round-requires-clause-rims c =
+    let table = c.fill_rims.new.rims in
+    let own : c.deref.result.now ≡ table = c.deref.ensures.value ∙ with_items_is c.in_ok-rims.rims table (omega (arith, c.fill_rims.auto.rims, c.deref_mut.ensures.len)) in
+    subst (λ rims. AreRims c.args.border.now (sides_of rims)) (sym own) c.fill_rims.ensures.rims
+
+pub go_round-requires-clause-reaches : goal.go_round-requires-clause-reaches
+go_round-requires-clause-reaches c =
+    let table = c.fill_rims.new.rims in
+    let own : c.deref.result.now ≡ table = c.deref.ensures.value ∙ with_items_is c.in_ok-rims.rims table (omega (arith, c.fill_rims.auto.rims, c.deref_mut.ensures.len)) in
+    subst (AreReaches c.args.border.now) (sym own) c.fill_rims.ensures.reaches

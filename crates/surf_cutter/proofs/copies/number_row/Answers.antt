@@ -19,7 +19,7 @@ loop-side-preserved c =
     let s : c.side-item.result ≡ get_or ring_row i 0 = c.side-item.is ∙ get_or_default ring_row i c.side-item.result 0 lt in
     let own : c.label_of.result ≡ label_at ring_row labels i = c.label_of.ensures ∙ ap (λ s. get_or labels s 0) s in
     let size = c.loop-side.auto.numbers in
-    let inside : label_at ring_row labels i < length numbers = let h = c.requires.labels (get_or ring_row i 0) (c.requires.row.begin i lt).0 in omega (arith, h, size) in
+    let inside : label_at ring_row labels i < length numbers = let h = c.requires.labels.below (get_or ring_row i 0) (c.requires.row.begin i lt).0 in omega (arith, h, size) in
     let same : get_or numbers c.label_of.result 0 ≡ get_or numbers (label_at ring_row labels i) 0 = ap (λ l. get_or numbers l 0) own in
     let P : List ℕ → List ℕ → Type 0 = λ numbers origins. AreNumberedIn mesh v ring_row (i + 1) labels numbers origins in
     elim (cases_eq (get_or numbers (label_at ring_row labels i) 0) nobody) [

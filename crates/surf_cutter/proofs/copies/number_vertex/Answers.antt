@@ -11,7 +11,7 @@ number_label-requires-clause-few c =
     let are = c.requires.so_far in
     let all = sorted_few c.args.mesh.now c.args.v are.0 are.1 in
     let within = are.2.few in
-    omega (arith, all, within, c.requires.few)
+    omega (arith, all, within, c.law_of_surface.ensures.few)
 
 pub returns-then-have_one_label-clause-numbered : goal.returns-then-have_one_label-clause-numbered
 returns-then-have_one_label-clause-numbered c =
@@ -27,7 +27,7 @@ returns-then-have_one_label-clause-numbered c =
     let d : ℕ = c.index-ring-0.result in
     let side : d ≡ get_or ring 0 0 = c.index-ring-0.is ∙ get_or_default ring 0 d 0 is.some in
     let own : c.label_of.result ≡ label = c.label_of.ensures ∙ ap (λ s. get_or labels s 0) side in
-    let inside : label < length numbers = c.requires.labels (get_or ring 0 0) (is.begin 0 is.some).0 in
+    let inside : label < length numbers = c.requires.labels.below (get_or ring 0 0) (is.begin 0 is.some).0 in
     let same : get_or numbers c.label_of.result 0 ≡ get_or numbers label 0 = ap (λ l. get_or numbers l 0) own in
     let r = c.number_label.result in
     let P : List ℕ → List ℕ → Type 0 = λ numbers origins. AreNumberedTo mesh (v + 1) labels numbers origins in
@@ -36,9 +36,9 @@ returns-then-have_one_label-clause-numbered c =
           let e = gives (same ∙ unknown) in
           let table = e.0 ∙ ap (λ l. set numbers l (length origins)) own in
           subst (λ ns. P ns c.number_label.new.origins.items) (sym table) (subst (P (set numbers label (length origins))) (sym e.1)
-          (one_new mesh v ring labels is c.requires.few is.some one numbers origins inside unknown c.requires.so_far))) c.number_label.ensures.first
+          (one_new mesh v ring labels is c.law_of_surface.ensures.few is.some one numbers origins inside unknown c.requires.so_far))) c.number_label.ensures.first
       | inr known ↦ on_ok_weaker r (λ gives.
           let e = gives (λ z. known (sym same ∙ z)) in
           subst (λ ns. P ns c.number_label.new.origins.items) (sym e.0) (subst (P numbers) (sym e.1)
-          (one_again mesh v ring labels is c.requires.few is.some one numbers origins inside known c.requires.so_far))) c.number_label.ensures.again
+          (one_again mesh v ring labels is c.law_of_surface.ensures.few is.some one numbers origins inside known c.requires.so_far))) c.number_label.ensures.again
     ]

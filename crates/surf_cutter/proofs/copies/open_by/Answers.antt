@@ -30,7 +30,7 @@ returns-clause-opened c cut count are =
     let corners = c.renumber.new.labels in
     let table = written c.args.labels.len corners labels (c.renumber.auto.labels ∙ ap length c.deref_mut.ensures.value) (sym c.args.labels.ok.0) in
     let rows : AreRowsOf mesh corners c.in_ok-faces.faces = subst (λ (xs : List ℕ). AreRowsOf mesh xs c.in_ok-faces.faces) table c.in_ok-faces.ensures.rows in
-    let is = copied mesh labels c.deref_mut.result.now corners numbers c.in_ok-faces.faces c.requires.all c.deref_mut.ensures.value c.renumber.ensures rows in
+    let is = copied mesh labels c.deref_mut.result.now corners numbers c.in_ok-faces.faces c.requires.labels.all c.deref_mut.ensures.value c.renumber.ensures rows in
     let counted : AreCounted numbered.0 labels (all_corners mesh) (length numbered.0) numbers c.in_ok-origins.origins.items =
     subst (λ (xs : List ℕ). AreCounted numbered.0 xs (all_corners mesh) (length numbered.0) numbers c.in_ok-origins.origins.items) c.deref.ensures.value numbered.2 in
     opened_by c.law_of_surface.ensures.surface are (sorted_all c.law_of_surface.ensures.surface numbered.0 numbered.1) counted is
@@ -44,7 +44,7 @@ returns-clause-order c cut count are =
     let corners = c.renumber.new.labels in
     let table = written c.args.labels.len corners labels (c.renumber.auto.labels ∙ ap length c.deref_mut.ensures.value) (sym c.args.labels.ok.0) in
     let rows : AreRowsOf mesh corners c.in_ok-faces.faces = subst (λ (xs : List ℕ). AreRowsOf mesh xs c.in_ok-faces.faces) table c.in_ok-faces.ensures.rows in
-    let is = copied mesh labels c.deref_mut.result.now corners numbers c.in_ok-faces.faces c.requires.all c.deref_mut.ensures.value c.renumber.ensures rows in
+    let is = copied mesh labels c.deref_mut.result.now corners numbers c.in_ok-faces.faces c.requires.labels.all c.deref_mut.ensures.value c.renumber.ensures rows in
     let counted : AreCounted numbered.0 labels (all_corners mesh) (length numbered.0) numbers c.in_ok-origins.origins.items =
     subst (λ (xs : List ℕ). AreCounted numbered.0 xs (all_corners mesh) (length numbered.0) numbers c.in_ok-origins.origins.items) c.deref.ensures.value numbered.2 in
     in_order c.law_of_surface.ensures.surface are (sorted_all c.law_of_surface.ensures.surface numbered.0 numbered.1) counted is

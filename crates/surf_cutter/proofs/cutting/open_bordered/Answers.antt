@@ -4,5 +4,5 @@ use Rattle.surf_cutter.proofs.cutting.open_bordered.Goals as goal
 
 pub returns : goal.returns
 returns c =
-    let P : OpenMesh → Type 0 = λ o. IsOpenedInOrder c.args.mesh.now c.args.cut.now o in
-    record { opened = subst P (sym c.from_parts.ensures) c.in_ok-disc.ensures.opened }
+    let P : OpenMesh → Type 0 = λ o. IsOpenedInOrder c.args.cut.now.mesh c.args.cut.now.marks o in
+    subst P (sym c.from_parts.ensures) c.in_ok-disc.ensures

@@ -1,11 +1,20 @@
-use Rattle.std.proofs.lemmas.Result.{IfOk-weaker}
+use Rattle.surf_surfaces.proofs.Common.{subst, IfOk, IfOk-weaker, Mesh}
 use Rattle.surf_cutter.specs.Kinds.{full}
 use Rattle.surf_cutter.specs.Opened.{IsOpenedInOrder, IsChosenFor}
 use Rattle.surf_cutter.proofs.Chosen.{chosen_opening}
 use Rattle.surf_cutter.proofs.cutting.open_full.Goals as goal
+use Rattle.surf_cutter.proofs.cutting.open_full.Goals.{After-open_bordered}
+
+opened : (c : After-open_bordered) → IfOk c.open_bordered.result (λ o. IsOpenedInOrder c.args.held.mesh c.full_cut-cut.result.marks o)
+opened c = subst (λ (mesh : Mesh). IfOk c.open_bordered.result (λ o. IsOpenedInOrder mesh c.full_cut-cut.result.marks o)) c.full_cut-cut.ensures.mesh c.open_bordered.ensures
 
 pub returns-clause-chosen : goal.returns-clause-chosen
-returns-clause-chosen c = IfOk-weaker c.open_bordered.result (λ o. IsOpenedInOrder c.args.mesh.now c.choose_full.new.flags o) (λ o. IsChosenFor c.args.mesh.now c.args.flags.now full o) c.choose_full.ensures.chosen.chosen c.open_bordered.ensures.opened
+returns-clause-chosen c =
+    let held = c.args.held in
+    IfOk-weaker c.open_bordered.result (λ o. IsOpenedInOrder held.mesh c.full_cut-cut.result.marks o) (λ o. IsChosenFor held.mesh held.marks full o)
+    c.full_cut-cut.ensures.chosen.chosen (opened (goal.at.returns-clause-chosen c).After-open_bordered)
 
 pub returns-clause-opening : goal.returns-clause-opening
-returns-clause-opening c = chosen_opening c.law_of_surface.ensures.surface c.requires.held c.choose_full.ensures.chosen c.open_bordered.result c.open_bordered.ensures.opened
+returns-clause-opening c =
+    chosen_opening c.law_of_held.ensures.surface c.law_of_held.ensures.held c.full_cut-cut.ensures.chosen c.open_bordered.result
+    (opened (goal.at.returns-clause-opening c).After-open_bordered)

@@ -1,13 +1,12 @@
 use Rattle.surf_surfaces.proofs.Common.{◌≡◌, ◌+◌, ◌∙◌, suc, false, true, get_or, ap, sym, arith, false≢true}
 use Rattle.surf_opening.specs.Laws.{cut_count}
 use Rattle.surf_cutter.specs.Trimming.{is_cut, is_marked}
-use Rattle.surf_cutter.proofs.Trims.{count_taken, size_taken}
+use Rattle.surf_cutter.proofs.Trims.{count_taken}
 use Rattle.surf_cutter.proofs.Takes.{taken_none, taken_more, no_other_loose, begun_at, leaf_kept}
 use Rattle.surf_cutter.proofs.taking.take_from.Goals as goal
 
 pub loop-degree-init : goal.loop-degree-init
 loop-degree-init c = record {
-  flags = c.requires.flags;
   degrees = c.requires.degrees;
   vertex = c.requires.vertex;
   taken = taken_none c.args.mesh.now c.args.marks.now c.args.cut.now;
@@ -18,7 +17,7 @@ pub loop-degree-smaller : goal.loop-degree-smaller
 loop-degree-smaller c =
     let less : cut_count c.args.mesh.now (is_cut c.loop-degree.cut) ≡ suc (cut_count c.args.mesh.now (is_cut c.take_back-leaf.new.cut)) =
     count_taken c.loop-degree.leaf c.take_back-leaf.result c.loop-degree.cut c.take_back-leaf.new.cut c.loop-degree.degree c.take_back-leaf.new.degree
-    c.loop-degree.invariant.flags c.take_back-leaf.ensures in
+    c.loop-degree.invariant.degrees.flags c.take_back-leaf.ensures in
     omega (arith, less)
 
 pub loop-degree-preserved : goal.loop-degree-preserved
@@ -35,10 +34,9 @@ loop-degree-preserved c =
     let no_mark : is_marked c.args.marks.now leaf ≡ false =
     ap (λ k. get_or c.args.marks.now k false) (sym c.index-in-loop-degree.ensures) ∙ c.if-not-marks-index.true in
     record {
-      flags = size_taken leaf next old new degree less t ∙ i.flags;
       degrees = t.degrees;
       vertex = t.other_end;
-      taken = taken_more c.args.marks.now c.args.cut.now old new degree less leaf next i.taken i.degrees i.flags i.vertex no_mark one t;
+      taken = taken_more c.args.marks.now c.args.cut.now old new degree less leaf next i.taken i.degrees i.degrees.flags i.vertex no_mark one t;
       others = no_other_loose c.args.marks.now (c.args.start + 1) leaf next old new degree less i.others t;
     }
 

@@ -1,4 +1,4 @@
-use Rattle.surf_surfaces.proofs.Common.{◌≡◌, ◌<◌, ◌+◌, length, edge_count}
+use Rattle.surf_surfaces.proofs.Common.{◌<◌, ◌+◌}
 use Rattle.surf_opening.specs.Laws.{cut_count}
 use Rattle.surf_cutter.specs.Trimming.{is_cut, AreDegrees, IsTakenFrom}
 use Rattle.surf_cutter.proofs.Takes.{HasNoOtherLoose}
@@ -6,7 +6,6 @@ use Rattle.surf_cutter.proofs.taking.take_from.Given as goal
 
 abbrev pub invariant-loop-degree : goal.invariant-loop-degree
 invariant-loop-degree l = record {
-  flags : length l.cut ≡ edge_count l.mesh;
   degrees : AreDegrees l.mesh l.cut l.degree;
   vertex : l.leaf < l.mesh.vertices;
   taken : IsTakenFrom l.mesh l.marks l.initial.cut l.cut;

@@ -26,19 +26,19 @@ uncount_at-requires-clause-differ c = (its_cut (goal.at.uncount_at-requires-clau
 pub uncount_at-requires-clause-some_first : goal.uncount_at-requires-clause-some_first
 uncount_at-requires-clause-some_first c =
     let is = its_cut (goal.at.uncount_at-requires-clause-some_first c).After-ends-u in
-    end_counts c.args.mesh.now c.args.cut.now c.args.degree.now c.index-edges-first_cut.result c.ends-u.result.0 c.requires.degrees is.first_in is.is_edge is.is_cut (inl (sym is.first)) c.requires.flags
+    end_counts c.args.mesh.now c.args.cut.now c.args.degree.now c.index-edges-first_cut.result c.ends-u.result.0 c.requires.degrees is.first_in is.is_edge is.is_cut (inl (sym is.first)) c.requires.degrees.flags
 
 pub uncount_at-requires-clause-some_second : goal.uncount_at-requires-clause-some_second
 uncount_at-requires-clause-some_second c =
     let is = its_cut (goal.at.uncount_at-requires-clause-some_second c).After-ends-u in
-    end_counts c.args.mesh.now c.args.cut.now c.args.degree.now c.index-edges-first_cut.result c.ends-u.result.1 c.requires.degrees is.second_in is.is_edge is.is_cut (inr (sym is.second)) c.requires.flags
+    end_counts c.args.mesh.now c.args.cut.now c.args.degree.now c.index-edges-first_cut.result c.ends-u.result.1 c.requires.degrees is.second_in is.is_edge is.is_cut (inr (sym is.second)) c.requires.degrees.flags
 
 pub returns-then-eq : goal.returns-then-eq
 returns-then-eq c =
     let is = its_cut (goal.at.returns-then-eq c).After-ends-u in
-    taken_back_at c.law_of_surface.ensures.surface c.requires.degrees c.requires.flags is c.index.ensures c.uncount_at.new.degree c.ends-u.result.1 c.requires.one c.uncount_at.auto.degree c.uncount_at.ensures.first c.uncount_at.ensures.second c.uncount_at.ensures.others (inl (eqb-true c.ends-u.result.0 c.args.leaf (sym c.eq.ensures ∙ c.if-eq.true), refl))
+    taken_back_at c.law_of_surface.ensures.surface c.requires.degrees c.requires.degrees.flags is c.index.ensures c.uncount_at.new.degree c.ends-u.result.1 c.requires.one c.uncount_at.auto.degree c.uncount_at.ensures.first c.uncount_at.ensures.second c.uncount_at.ensures.others (inl (eqb-true c.ends-u.result.0 c.args.leaf (sym c.eq.ensures ∙ c.if-eq.true), refl))
 
 pub returns-else-eq : goal.returns-else-eq
 returns-else-eq c =
     let is = its_cut (goal.at.returns-else-eq c).After-ends-u in
-    taken_back_at c.law_of_surface.ensures.surface c.requires.degrees c.requires.flags is c.index.ensures c.uncount_at.new.degree c.ends-u.result.0 c.requires.one c.uncount_at.auto.degree c.uncount_at.ensures.first c.uncount_at.ensures.second c.uncount_at.ensures.others (inr (is.other (eqb-false c.ends-u.result.0 c.args.leaf (sym c.eq.ensures ∙ c.if-eq.false)), refl))
+    taken_back_at c.law_of_surface.ensures.surface c.requires.degrees c.requires.degrees.flags is c.index.ensures c.uncount_at.new.degree c.ends-u.result.0 c.requires.one c.uncount_at.auto.degree c.uncount_at.ensures.first c.uncount_at.ensures.second c.uncount_at.ensures.others (inr (is.other (eqb-false c.ends-u.result.0 c.args.leaf (sym c.eq.ensures ∙ c.if-eq.false)), refl))

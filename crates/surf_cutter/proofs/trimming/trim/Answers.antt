@@ -5,7 +5,7 @@ use Rattle.surf_cutter.proofs.Trims.{has_ended}
 use Rattle.surf_cutter.proofs.trimming.trim.Goals as goal
 
 pub count_cut-left-requires : goal.count_cut-left-requires
-count_cut-left-requires c = omega (arith, c.requires.flags, edges_few c.args.mesh.now c.law_of_surface.ensures.surface, c.law_of_surface.ensures.few)
+count_cut-left-requires c = omega (arith, c.requires.degrees.flags, edges_few c.args.mesh.now c.law_of_surface.ensures.surface, c.law_of_surface.ensures.few)
 
 pub returns-clause-ended : goal.returns-clause-ended
 returns-clause-ended c =

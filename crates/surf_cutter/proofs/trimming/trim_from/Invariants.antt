@@ -1,4 +1,4 @@
-use Rattle.surf_surfaces.proofs.Common.{◌≡◌, ◌≤◌, ◌<◌, length, edge_count}
+use Rattle.surf_surfaces.proofs.Common.{◌≡◌, ◌≤◌, ◌<◌}
 use Rattle.surf_opening.specs.Laws.{cut_count}
 use Rattle.surf_cutter.specs.Trimming.{is_cut, AreDegrees, IsTrimmedFrom}
 use Rattle.surf_cutter.proofs.Trims.{HasNoOtherLeaf}
@@ -6,7 +6,6 @@ use Rattle.surf_cutter.proofs.trimming.trim_from.Given as goal
 
 abbrev pub invariant-loop-left : goal.invariant-loop-left
 invariant-loop-left l = record {
-  flags : length l.cut ≡ edge_count l.mesh;
   degrees : AreDegrees l.mesh l.cut l.degree;
   counted : l.left ≡ cut_count l.mesh (is_cut l.cut);
   vertex : l.leaf < l.mesh.vertices;

@@ -5,10 +5,10 @@ use Rattle.surf_disc.proofs.across.all_across.Goals as goal
 
 pub other_side-requires : goal.other_side-requires
 other_side-requires c =
-    let mesh = c.args.soup.now in
+    let mesh = c.args.tabled.now.soup.now in
     let s = c.loop-s.s in
     let lt : s < side_count mesh = omega (arith, c.loop-s-test.true, c.side_count-count.ensures.count) in
-    let table = c.args.table.now in
+    let table = c.args.tabled.now.table.now in
     let edge = c.index-edge.result.now in
     let at : edge ≡ get_or table.edge_of.items s edge = c.index-edge.ensures
     ∙ ap (λ i. get_or table.edge_of.items i edge) (c.index.ensures ∙ c.new-side.ensures) in
@@ -16,23 +16,23 @@ other_side-requires c =
     ∙ ap (λ i. get_or table.sides i []) c.index-in-loop-s.ensures in
     record {
       some = row_has mesh s c.row-row.result.now
-          (row_read mesh c.law_of_soup.ensures.mesh _ _ _ _ _ c.requires.table c.requires.few s lt
+          (row_read mesh c.law_of_soup.ensures.mesh _ _ _ _ _ c.args.tabled.now.is_table c.requires.few s lt
           edge c.row-row.result.now at of_edge) lt;
     }
 
 pub loop-s-preserved : goal.loop-s-preserved
 loop-s-preserved c =
-    let mesh = c.args.soup.now in
+    let mesh = c.args.tabled.now.soup.now in
     let s = c.loop-s.s in
     let row = c.row-row.result.now in
     let lt : s < side_count mesh = omega (arith, c.loop-s-test.true, c.side_count-count.ensures.count) in
-    let table = c.args.table.now in
+    let table = c.args.tabled.now.table.now in
     let edge = c.index-edge.result.now in
     let at : edge ≡ get_or table.edge_of.items s edge = c.index-edge.ensures
     ∙ ap (λ i. get_or table.edge_of.items i edge) (c.index.ensures ∙ c.new-side.ensures) in
     let of_edge : row ≡ get_or table.sides edge [] = c.row-row.ensures
     ∙ ap (λ i. get_or table.sides i []) c.index-in-loop-s.ensures in
-    let own = row_read mesh c.law_of_soup.ensures.mesh _ _ _ _ _ c.requires.table c.requires.few s lt
+    let own = row_read mesh c.law_of_soup.ensures.mesh _ _ _ _ _ c.args.tabled.now.is_table c.requires.few s lt
     edge row at of_edge in
     let is = row_across mesh s row own lt in
     let items : c.push.new.self.items ≡ c.loop-s.across.items ++ c.other_side.result ∷ [] = search rules in

@@ -25,32 +25,32 @@ read rows face_of row table e k face h a b = h ∙ ap (λ (xs : List ℕ). get_o
     ∙ ap (λ (r : List ℕ). get_or face_of (get_or r k 0) 0) b
 
 pub face_in-first-requires-clause-side : goal.face_in-first-requires-clause-side
-face_in-first-requires-clause-side c = inside c.args.soup.now c.law_of_soup.ensures.mesh _ _ _ _ _ c.requires.table
+face_in-first-requires-clause-side c = inside c.args.tabled.now.soup.now c.law_of_soup.ensures.mesh _ _ _ _ _ c.args.tabled.now.is_table
     _ c.args.e 0 c.requires.first (omega arith) c.row-row.result.now c.deref.result.now c.row-row.ensures
     c.deref.ensures.value
 
 pub face_in-second-requires-clause-side : goal.face_in-second-requires-clause-side
-face_in-second-requires-clause-side c = inside c.args.soup.now c.law_of_soup.ensures.mesh _ _ _ _ _ c.requires.table
+face_in-second-requires-clause-side c = inside c.args.tabled.now.soup.now c.law_of_soup.ensures.mesh _ _ _ _ _ c.args.tabled.now.is_table
     _ c.args.e 1 c.requires.first (omega arith) c.row-row.result.now c.deref-2.result.now c.row-row.ensures
     c.deref-2.ensures.value
 
 pub face_in-third-requires-clause-side : goal.face_in-third-requires-clause-side
-face_in-third-requires-clause-side c = inside c.args.soup.now c.law_of_soup.ensures.mesh _ _ _ _ _ c.requires.table
+face_in-third-requires-clause-side c = inside c.args.tabled.now.soup.now c.law_of_soup.ensures.mesh _ _ _ _ _ c.args.tabled.now.is_table
     _ c.args.e 2 c.requires.first (omega arith) c.row-row.result.now c.deref-3.result.now c.row-row.ensures
     c.deref-3.ensures.value
 
 pub returns-clause-fault : goal.returns-clause-fault
 returns-clause-fault c =
-    let mesh = c.args.soup.now in
-    let rows = c.args.table.now.sides in
-    let face_of = c.args.table.now.face_of.items in
-    let t = c.requires.table in
+    let mesh = c.args.tabled.now.soup.now in
+    let rows = c.args.tabled.now.table.now.sides in
+    let face_of = c.args.tabled.now.table.now.face_of.items in
+    let t = c.args.tabled.now.is_table in
     let e = c.args.e in
     let first = c.requires.first in
     let n = table_len mesh c.law_of_soup.ensures.mesh _ _ _ _ _ t in
     let crowd = first_crowded mesh c.law_of_soup.ensures.mesh _ _ _ _ _ t _ e
     (omega (arith, c.law_of_soup.ensures.few)) first in
-    let pair : c.index.result.now ≡ ends mesh e = get_or_read c.args.table.now.edges.items e c.index.result.now
+    let pair : c.index.result.now ≡ ends mesh e = get_or_read c.args.tabled.now.table.now.edges.items e c.index.result.now
     (omega (arith, first.is_row, ap length t.edge_list_is)) c.index.ensures (0, 0)
     ∙ ap (λ (xs : List (ℕ × ℕ)). get_or xs e (0, 0)) t.edge_list_is in
     let a = read rows face_of c.row-row.result.now c.deref.result.now e 0 c.face_in-first.result

@@ -1,8 +1,8 @@
 use Rattle.surf_surfaces.proofs.Common.{◌≡◌, ◌+◌, ◌∷◌, ◌++◌, [], true, false, get_or, ap, sym, ◌∙◌, subst, rules, IsEdgeOf}
 use Rattle.surf_cutter.specs.Boundary.{AreCutSides}
 use Rattle.surf_cutter.proofs.BorderTables.{cut_more, cut_none}
-use Rattle.surf_cutter.proofs.border.cut_sides.Goals as goal
-use Rattle.surf_cutter.proofs.border.cut_sides.Goals.{then-cut-index+in_ok-push, else-cut-index}
+use Rattle.surf_cutter.proofs.disc_cut.cut_sides.Goals as goal
+use Rattle.surf_cutter.proofs.disc_cut.cut_sides.Goals.{then-cut-index+in_ok-push, else-cut-index}
 
 pub loop-s-preserved : goal.loop-s-preserved
 loop-s-preserved c =

@@ -1,0 +1,9 @@
+use Rattle.std.proofs.Common.{sym, subst}
+use Rattle.surf_cutter.specs.Boundary.{AreBorderSides}
+use Rattle.surf_cutter.specs.Opened.{mesh_of}
+use Rattle.surf_cutter.proofs.disc_cut.Bordered.sides.Goals as goal
+
+pub returns : goal.returns
+returns c =
+    let disc = mesh_of c.self.inside.disc.now in
+    subst (λ disc. AreBorderSides disc c.deref.result.now) c.self.view_is (subst (AreBorderSides disc) (sym c.deref.ensures.value) c.self.invariant.all)
