@@ -9,6 +9,7 @@ pub mod Numbered
 pub mod OneLabel
 pub mod OpenedBy
 pub mod PairedBorders
+pub mod RimTables
 pub mod Rims
 pub mod Sorted
 pub mod Takes

@@ -9,9 +9,10 @@ use Rattle.surf_opening.proofs.sides.Polygons.{same_pair}
 use Rattle.surf_soup.proofs.HalfLaws.{spans}
 use Rattle.surf_soup.proofs.VertexLaws.{corner_at_place, corners_len}
 use Rattle.surf_base.specs.Tables.{nobody}
-use Rattle.surf_cutter.specs.Boundary.{over, corners_of, HasCopy, IsBorderSide, AreBorderSides, HasPairedBorder}
-use Rattle.surf_cutter.specs.Rims.{HaveSameSizes, AreRims, AreRimsTo, IsRimTo, IsListedAt, IsOneOf, LeadsFrom, AreReaches, sides_of, with_reach, other_reach}
+use Rattle.surf_cutter.specs.Boundary.{corners_of, HasCopy, IsBorderSide, AreBorderSides, HasPairedBorder}
+use Rattle.surf_cutter.specs.Rims.{HaveSameSizes, AreRims, IsOneOf, LeadsFrom, AreReaches, sides_of, with_reach, other_reach}
 use Rattle.surf_cutter.proofs.BorderSides.{corners_at_place}
+use Rattle.surf_cutter.proofs.RimTables.{over, AreRimsTo, IsRimTo, IsListedAt}
 use Rattle.surf_cutter.proofs.BorderTables.{copy_in}
 
 -- two sides, the first of which may still be missing, with one side more

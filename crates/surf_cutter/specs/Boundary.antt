@@ -10,10 +10,6 @@ use Rattle.surf_opening.specs.Uncut.{IsDualTree, IsTrimmed}
 use Rattle.surf_surfaces.specs.SideNumber.{IsEdgeOf, side_count, pair_at}
 use Rattle.surf_cutter.specs.Trimming.{is_cut}
 
--- the faces over copies of which there are so many
-abbrev pub over : ℕ → List (List ℕ) → Mesh
-over copies faces = record { vertices = copies; faces = faces }
-
 -- the two corners of a side, in the listed order of its face
 abbrev pub corners_of : Mesh → ℕ → ℕ × ℕ
 corners_of mesh s = slice_index_or (flat_map sides mesh.faces) s (0, 0)

@@ -2,8 +2,9 @@ use Rattle.surf_surfaces.proofs.Common.{◌≡◌, ◌<◌, ℕ, length, get_or,
 use Rattle.std.proofs.Math.ListN.{set}
 use Rattle.surf_base.specs.Tables.{nobody}
 use Rattle.surf_cutter.specs.Boundary.{corners_of}
-use Rattle.surf_cutter.specs.Rims.{AreRimsTo, AreReaches, sides_of, with_reach}
+use Rattle.surf_cutter.specs.Rims.{AreReaches, sides_of, with_reach}
 use Rattle.surf_cutter.proofs.BorderTables.{corners_in}
+use Rattle.surf_cutter.proofs.RimTables.{AreRimsTo}
 use Rattle.surf_cutter.proofs.Rims.{rims_none, rims_more, rims_done, sides_none, sides_size, sides_with, reaches_none, reaches_with}
 use Rattle.surf_cutter.proofs.border.fill_rims.Goals as goal
 

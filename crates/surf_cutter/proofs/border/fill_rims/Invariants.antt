@@ -1,4 +1,5 @@
-use Rattle.surf_cutter.specs.Rims.{AreRimsTo, AreReaches, sides_of}
+use Rattle.surf_cutter.specs.Rims.{AreReaches, sides_of}
+use Rattle.surf_cutter.proofs.RimTables.{AreRimsTo}
 use Rattle.surf_cutter.proofs.border.fill_rims.Given as goal
 
 abbrev pub invariant-loop-side : goal.invariant-loop-side
