@@ -10,7 +10,7 @@ use Rattle.surf_surfaces.specs.Cells.{cells_of}
 use Rattle.surf_orientation.specs.Chains.{same_way, FollowTree}
 use Rattle.surf_surfaces.specs.SideNumber.{IsEdgeOf}
 use Rattle.surf_soup.specs.Reach.{marked, unmarked}
-use Rattle.surf_check.specs.declared.growth.FaceTree.{FaceTree}
+use Rattle.surf_check.specs.declared.face_tree.FaceTree.{FaceTree}
 
 -- the flag of a face
 abbrev pub flag_of : List Bool → ℕ → Bool

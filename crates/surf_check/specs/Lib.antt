@@ -4,3 +4,4 @@ pub mod Growth
 pub mod Kinds
 pub mod Links
 pub mod Oriented
+pub mod Mated

@@ -5,7 +5,7 @@ use Rattle.surf_surfaces.specs.Mesh.{Mesh}
 use Rattle.surf_surfaces.specs.Surface.{face_count, IsOrientation, IsOrientable}
 use Rattle.surf_surfaces.specs.Turning.{IsOneSided}
 use Rattle.surf_check.specs.Growth.{flag_of, grown_tree}
-use Rattle.surf_check.specs.declared.growth.FaceTree.{FaceTree}
+use Rattle.surf_check.specs.declared.face_tree.FaceTree.{FaceTree}
 use Rattle.surf_check.specs.declared.answers.Sides.{Sides}
 use Rattle.surf_check.specs.declared.answers.Sides.TheVariants.{Two, One}
 

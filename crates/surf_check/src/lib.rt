@@ -23,6 +23,7 @@ mod answers;
 mod checking;
 mod counts;
 mod descent;
+mod face_tree;
 mod growth;
 mod kinds;
 mod one_way;

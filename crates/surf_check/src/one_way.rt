@@ -2,7 +2,7 @@
 ghost use Rattle.std.specs.Prelude.{◌≡◌, ◌<◌, ℕ, IfOk, IfErr, OnOk, MatchBool};
 ghost use Rattle.surf_surfaces.specs.Mesh.{edges};
 ghost use Rattle.surf_surfaces.specs.Surface.{IsSurface, IsConnected, HasOneFan, face_count};
-ghost use Rattle.surf_surfaces.specs.SideNumber.{side_count, owners};
+ghost use Rattle.surf_surfaces.specs.SideNumber.{side_count};
 ghost use Rattle.surf_soup.specs.First.{AreFirstSides};
 ghost use Rattle.surf_soup.specs.Half.{AreAllMates};
 ghost use Rattle.surf_soup.specs.Pairing.{AreGreaterEnds};
@@ -14,10 +14,10 @@ ghost use Rattle.surf_check.specs.Kinds.{RunOneWay, BeginsWithMate, NoneBeginWit
 use crate::checking::SurfaceFault;
 use crate::descent::are_set_behind_first;
 use std::alloc::Global;
+use std::marker::Model;
 use surf_base::SideId;
 use surf_soup::{
-    MatedSides, Pinch, SideFaces, Soup, find_apart, find_isolated, find_pinch_by, first_sides,
-    mated_sides,
+    MatedSides, SideFaces, Soup, find_apart, find_isolated, find_pinch_by, first_sides, mated_sides,
 };
 
 // Whether no side begins where its mate does.
@@ -57,51 +57,62 @@ fn mated(alloc: Global, soup: &Soup) -> Result<(MatedSides, Vec<SideId>), Surfac
     Ok((mated, first))
 }
 
+// A soup with a face, whose edges have two faces each and whose vertices are all in faces, with the
+// tables by which its faces are tested. It is seen as the soup.
+#[derive(Drop)]
+struct MatedSoup<'t> {
+    soup: &'t Soup,
+    mated: MatedSides,
+    first: Vec<SideId>,
+    face_of: SideFaces,
+}
+
+impl<'t> Model for MatedSoup<'t> {
+    ghost use Rattle.surf_surfaces.specs.Mesh.{Mesh};
+    ghost use Rattle.surf_check.specs.Mated.{IsMatedSoup};
+
+    ghost Value = { Mesh };
+
+    ghost view = { λ m. m.soup.now };
+
+    ghost invariant = { λ m. IsMatedSoup m.soup.now m.mated.mate.items m.face_of m.first.items
+        m.mated.greater.items };
+}
+
 // Whether the faces at each vertex form one cycle, where there is no fault before; else the next.
-fn test_fans(
-    alloc: Global,
-    soup: &Soup,
-    mate: &[SideId],
-    face_of: &SideFaces,
-    first: &[SideId],
-) -> Result<(), SurfaceFault>
-    requires some { 0 < face_count soup.now }
-    requires two { HasTwoFaces soup.now }
-    requires met { AllMet soup.now }
-    requires mates { AreAllMates soup.now mate.now }
-    requires faces { face_of.now ≡ owners 0 soup.now.faces }
-    requires first { AreFirstSides soup.now first.now }
-    ensures fans { OnOk result ((v : ℕ) → v < soup.now.vertices → HasOneFan soup.now v) }
-    ensures fault { IfErr result (λ e. IsSurfaceFault soup.now e) }
+fn test_fans(alloc: Global, tables: &MatedSoup<'_>) -> Result<(), SurfaceFault>
+    ensures fans { OnOk result ((v : ℕ) → v < tables.now.vertices → HasOneFan tables.now v) }
+    ensures fault { IfErr result (λ e. IsSurfaceFault tables.now e) }
 {
-    match find_pinch_by(alloc, soup, mate, face_of, first)? {
+    let found = find_pinch_by(
+        alloc,
+        tables.soup,
+        &tables.mated.mate,
+        &tables.face_of,
+        &tables.first,
+    )?;
+    match found {
         None => Ok(()),
-        Some(Pinch { v, first, second }) => Err(SurfaceFault::Pinched { v, first, second }),
+        Some(pinch) => Err(SurfaceFault::Pinched {
+            v: pinch.v,
+            first: pinch.first,
+            second: pinch.second,
+        }),
     }
 }
 
 // Whether all faces are joined, where there is no fault before; else the last one.
-fn test_faces_joined(
-    alloc: Global,
-    soup: &Soup,
-    mated: &MatedSides,
-    face_of: &SideFaces,
-) -> Result<(), SurfaceFault>
-    requires some { 0 < face_count soup.now }
-    requires two { HasTwoFaces soup.now }
-    requires met { AllMet soup.now }
-    requires mates { AreAllMates soup.now mated.now.mate.items }
-    requires greater { AreGreaterEnds soup.now.vertices (edges soup.now) mated.now.greater.items }
-    requires faces { face_of.now ≡ owners 0 soup.now.faces }
-    requires fans { (v : ℕ) → v < soup.now.vertices → HasOneFan soup.now v }
-    ensures joined { OnOk result (IsConnected soup.now) }
-    ensures fault { IfErr result (λ e. IsSurfaceFault soup.now e) }
+fn test_faces_joined(alloc: Global, tables: &MatedSoup<'_>) -> Result<(), SurfaceFault>
+    requires { (v : ℕ) → v < tables.now.vertices → HasOneFan tables.now v }
+    ensures joined { OnOk result (IsConnected tables.now) }
+    ensures fault { IfErr result (λ e. IsSurfaceFault tables.now e) }
 {
-    soup.law_of_soup();
-    if are_set_behind_first(&mated.greater) {
+    tables.soup.law_of_soup();
+    if are_set_behind_first(&tables.mated.greater) {
         return Ok(());
     }
-    match find_apart(alloc, soup, &mated.mate, face_of)? {
+    let found = find_apart(alloc, tables.soup, &tables.mated.mate, &tables.face_of)?;
+    match found {
         None => Ok(()),
         Some(face) => Err(SurfaceFault::Apart { face }),
     }
@@ -121,7 +132,13 @@ pub(crate) fn is_one_way(alloc: Global, soup: &Soup) -> Result<bool, SurfaceFaul
         return Ok(false);
     }
     let face_of = SideFaces::build(alloc, soup)?;
-    test_fans(alloc, soup, &mated.mate, &face_of, &first)?;
-    test_faces_joined(alloc, soup, &mated, &face_of)?;
+    let tables = MatedSoup {
+        soup,
+        mated,
+        first,
+        face_of,
+    };
+    test_fans(alloc, &tables)?;
+    test_faces_joined(alloc, &tables)?;
     Ok(true)
 }

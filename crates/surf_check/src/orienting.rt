@@ -9,7 +9,8 @@ ghost use Rattle.surf_check.specs.Growth.{flag_of, IsFlagTree};
 ghost use Rattle.surf_check.specs.Oriented.{tree_in, AreSides};
 
 use crate::answers::{Chain, ChainLink, Sides, Turning};
-use crate::growth::{FaceTree, differ, grow};
+use crate::face_tree::FaceTree;
+use crate::growth::{differ, grow};
 use std::alloc::Global;
 use surf_base::{EdgeId, FaceId, NoMemory, SideId};
 use surf_mesh::{HalfMesh, Surface};

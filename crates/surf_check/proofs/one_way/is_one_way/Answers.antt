@@ -11,6 +11,19 @@ returns-then-not-begin_apart-clause-one_way c = λ surface runs.
     let found = c.if-not-begin_apart.ensures in
     not_one_way mesh surface c.deref.result.now mates found.0 found.1 found.2 runs
 
+pub invariant_of-tables : goal.invariant_of-tables
+invariant_of-tables c =
+    let known = c.in_ok-mated.ensures in
+    record {
+      some = known.some;
+      two = known.two;
+      met = known.met;
+      mates = known.mates;
+      faces = c.in_ok-face_of.ensures;
+      firsts = known.first;
+      ends = known.greater;
+    }
+
 pub returns-clause-one_way : goal.returns-clause-one_way
 returns-clause-one_way c =
     let mesh = c.args.soup.now in
