@@ -18,20 +18,20 @@ ghost use Rattle.surf_class.specs.Faults.{IsClassFault};
 ghost use Rattle.surf_class.specs.Seen.{seen};
 
 use crate::edges::{faces_beside, pair_edge, turn};
-use crate::evidence::Evidence;
+use crate::evidence::{Evidence, FaceList, PairList};
 use crate::fault::ClassFault;
+use crate::flagged::FlaggedMesh;
 use crate::parity::joint_flags;
 use std::alloc::Global;
 use surf_base::{EdgeId, FaceId, NoMemory, VertexId};
 use surf_mesh::{HalfMesh, Walk};
 
 // The least listed number that is no face.
-fn first_outside(mesh: &HalfMesh, faces: &[FaceId]) -> Option<FaceId>
-    requires rises { AllPairs (λ a b. a < b) faces.now }
-    ensures face { MatchOption result (All (λ f. f < face_count mesh.now) faces.now)
-        (λ f. IsNoFace mesh.now faces.now f) }
+fn first_outside(mesh: &HalfMesh, list: &FaceList) -> Option<FaceId>
+    ensures face { MatchOption result (All (λ f. f < face_count mesh.now) list.now)
+        (λ f. IsNoFace mesh.now list.now f) }
 {
-    for face in faces {
+    for face in list.faces() {
         if mesh.faces() <= face.number() {
             return Some(*face);
         }
@@ -63,16 +63,16 @@ fn is_between(mesh: &HalfMesh, faces: &[bool], edge: EdgeId) -> bool
 }
 
 // The least edge that is flagged and doesn't bound the flagged faces, or does and isn't flagged.
-fn first_differing(mesh: &HalfMesh, faces: &[bool], flags: &[bool]) -> Option<EdgeId>
-    requires faces { length faces.now ≡ face_count mesh.now }
-    requires flags { length flags.now ≡ edge_count mesh.now }
-    ensures edge { MatchOption result (HoldsBelow (edge_count mesh.now)
-        (AgreesAt mesh.now faces.now flags.now)) (FailsFirst (edge_count mesh.now)
-        (AgreesAt mesh.now faces.now flags.now)) }
+fn first_differing(flagged: &FlaggedMesh<'_>, faces: &[bool]) -> Option<EdgeId>
+    requires faces { length faces.now ≡ face_count flagged.now.mesh.now }
+    ensures edge { MatchOption result (HoldsBelow (edge_count flagged.now.mesh.now)
+        (AgreesAt flagged.now.mesh.now faces.now flagged.now.flags.now))
+        (FailsFirst (edge_count flagged.now.mesh.now)
+        (AgreesAt flagged.now.mesh.now faces.now flagged.now.flags.now)) }
 {
-    for e in 0..mesh.edges() {
+    for e in 0..flagged.mesh.edges() {
         let edge = EdgeId::new(e);
-        if is_between(mesh, faces, edge) != flags[edge.index()] {
+        if is_between(flagged.mesh, faces, edge) != flagged.flags[edge.index()] {
             return Some(edge);
         }
     }
@@ -80,25 +80,21 @@ fn first_differing(mesh: &HalfMesh, faces: &[bool], flags: &[bool]) -> Option<Ed
 }
 
 // Whether the flagged edges are the boundary of the faces.
-fn check_faces(
-    alloc: Global,
-    mesh: &HalfMesh,
-    flags: &[bool],
-    faces: &[FaceId],
-) -> Result<(), ClassFault>
-    requires flags { length flags.now ≡ edge_count mesh.now }
-    requires rises { AllPairs (λ a b. a < b) faces.now }
-    ensures right { (chain : Chain) → AreFlags (edge_count mesh.now) chain flags.now →
-        OnOk result (IsNullEvidence mesh.now chain faces.now) }
-    ensures fault { (chain : Chain) → AreFlags (edge_count mesh.now) chain flags.now →
-        IfErr result (IsClassFault mesh.now chain (null_faces faces.now)) }
+fn check_faces(alloc: Global, flagged: &FlaggedMesh<'_>, list: &FaceList) -> Result<(), ClassFault>
+    ensures right { (chain : Chain) →
+        AreFlags (edge_count flagged.now.mesh.now) chain flagged.now.flags.now →
+        OnOk result (IsNullEvidence flagged.now.mesh.now chain list.now) }
+    ensures fault { (chain : Chain) →
+        AreFlags (edge_count flagged.now.mesh.now) chain flagged.now.flags.now →
+        IfErr result (IsClassFault flagged.now.mesh.now chain (null_faces list.now)) }
 {
+    let mesh = flagged.mesh;
     mesh.law_of_surface();
-    if let Some(face) = first_outside(mesh, faces) {
+    if let Some(face) = first_outside(mesh, list) {
         return Err(ClassFault::Face { face });
     }
-    let inside = face_flags(alloc, mesh, faces)?;
-    if let Some(edge) = first_differing(mesh, &inside, flags) {
+    let inside = face_flags(alloc, mesh, list.faces())?;
+    if let Some(edge) = first_differing(flagged, &inside) {
         let (u, v) = mesh.ends(edge);
         return Err(ClassFault::Boundary { u, v });
     }
@@ -106,13 +102,11 @@ fn check_faces(
 }
 
 // The least listed pair that is no edge.
-fn first_stranger(mesh: &HalfMesh, pairs: &[(VertexId, VertexId)]) -> Option<(VertexId, VertexId)>
-    requires rises { AllPairs (λ a b. pair_lt a b ≡ true) pairs.now }
-    requires ordered { All (λ a. a.0 < a.1) pairs.now }
-    ensures pair { MatchOption result (All (Contains (edges mesh.now)) pairs.now)
-        (λ p. IsNoPair mesh.now pairs.now p.0 p.1) }
+fn first_stranger(mesh: &HalfMesh, list: &PairList) -> Option<(VertexId, VertexId)>
+    ensures pair { MatchOption result (All (Contains (edges mesh.now)) list.now)
+        (λ p. IsNoPair mesh.now list.now p.0 p.1) }
 {
-    for (u, v) in pairs {
+    for (u, v) in list.pairs() {
         if mesh.find_edge(*u, *v).is_none() {
             return Some((*u, *v));
         }
@@ -134,33 +128,28 @@ fn turn_faces(mesh: &HalfMesh, edge: EdgeId, odd: &mut [bool])
 }
 
 // Turns the flags of the two faces of each pair.
-fn turn_pairs(mesh: &HalfMesh, pairs: &[(VertexId, VertexId)], flags: &mut [bool])
-    requires edges { All (Contains (edges mesh.now)) pairs.now }
-    requires ordered { All (λ a. a.0 < a.1) pairs.now }
+fn turn_pairs(mesh: &HalfMesh, list: &PairList, flags: &mut [bool])
+    requires edges { All (Contains (edges mesh.now)) list.now }
     requires count { length flags.old ≡ face_count mesh.now }
     ensures turned { (f : ℕ) → f < face_count mesh.now → slice_index_or flags.new f false
         ≡ xor (slice_index_or flags.old f false)
-        (odd (map (λ p. borders mesh.now f (edge_number mesh.now p)) pairs.now)) }
+        (odd (map (λ p. borders mesh.now f (edge_number mesh.now p)) list.now)) }
 {
+    let pairs = list.pairs();
     for i in 0..pairs.len() {
         turn_faces(mesh, pair_edge(mesh, pairs[i]), flags);
     }
 }
 
 // Flags of the faces that have an odd number of the pairs as sides.
-fn odd_faces(
-    alloc: Global,
-    mesh: &HalfMesh,
-    pairs: &[(VertexId, VertexId)],
-) -> Result<Vec<bool>, NoMemory>
-    requires edges { All (Contains (edges mesh.now)) pairs.now }
-    requires rises { AllPairs (λ a b. pair_lt a b ≡ true) pairs.now }
-    requires ordered { All (λ a. a.0 < a.1) pairs.now }
+fn odd_faces(alloc: Global, mesh: &HalfMesh, list: &PairList) -> Result<Vec<bool>, NoMemory>
+    requires edges { All (Contains (edges mesh.now)) list.now }
     ensures flags { IfOk result (λ v. AreFlags (face_count mesh.now)
-        (has_odd_sides mesh.now pairs.now) v.items) }
+        (has_odd_sides mesh.now list.now) v.items) }
 {
+    list.law_of_pairs();
     let mut odd = vec![in alloc; false; mesh.faces() as usize]?;
-    turn_pairs(mesh, pairs, &mut odd);
+    turn_pairs(mesh, list, &mut odd);
     Ok(odd)
 }
 
@@ -172,46 +161,42 @@ fn first_flagged(faces: &[bool]) -> Option<usize>
 }
 
 // Whether an odd number of the pairs are flagged.
-fn is_odd(mesh: &HalfMesh, flags: &[bool], pairs: &[(VertexId, VertexId)]) -> bool
-    requires flags { length flags.now ≡ edge_count mesh.now }
-    requires edges { All (Contains (edges mesh.now)) pairs.now }
-    requires ordered { All (λ a. a.0 < a.1) pairs.now }
-    ensures odd { result ≡ is_odd_in mesh.now (is_flagged flags.now) pairs.now }
+fn is_odd(flagged: &FlaggedMesh<'_>, list: &PairList) -> bool
+    requires edges { All (Contains (edges flagged.now.mesh.now)) list.now }
+    ensures odd { result ≡ is_odd_in flagged.now.mesh.now (is_flagged flagged.now.flags.now)
+        list.now }
 {
+    let pairs = list.pairs();
     let mut odd = false;
     for i in 0..pairs.len() {
-        odd = odd != flags[pair_edge(mesh, pairs[i]).index()];
+        odd = odd != flagged.flags[pair_edge(flagged.mesh, pairs[i]).index()];
     }
     odd
 }
 
 // Whether each face has an even number of the pairs as sides, and an odd number of them are
 // flagged.
-fn check_pairs(
-    alloc: Global,
-    mesh: &HalfMesh,
-    flags: &[bool],
-    pairs: &[(VertexId, VertexId)],
-) -> Result<(), ClassFault>
-    requires flags { length flags.now ≡ edge_count mesh.now }
-    requires rises { AllPairs (λ a b. pair_lt a b ≡ true) pairs.now }
-    requires ordered { All (λ a. a.0 < a.1) pairs.now }
-    ensures right { (chain : Chain) → AreFlags (edge_count mesh.now) chain flags.now →
-        OnOk result (IsOddEvidence mesh.now chain pairs.now) }
-    ensures fault { (chain : Chain) → AreFlags (edge_count mesh.now) chain flags.now →
-        IfErr result (IsClassFault mesh.now chain (odd_pairs pairs.now)) }
+fn check_pairs(alloc: Global, flagged: &FlaggedMesh<'_>, list: &PairList) -> Result<(), ClassFault>
+    ensures right { (chain : Chain) →
+        AreFlags (edge_count flagged.now.mesh.now) chain flagged.now.flags.now →
+        OnOk result (IsOddEvidence flagged.now.mesh.now chain list.now) }
+    ensures fault { (chain : Chain) →
+        AreFlags (edge_count flagged.now.mesh.now) chain flagged.now.flags.now →
+        IfErr result (IsClassFault flagged.now.mesh.now chain (odd_pairs list.now)) }
 {
+    let mesh = flagged.mesh;
     mesh.law_of_surface();
-    if let Some((u, v)) = first_stranger(mesh, pairs) {
+    list.law_of_pairs();
+    if let Some((u, v)) = first_stranger(mesh, list) {
         return Err(ClassFault::Pair { u, v });
     }
-    let odd = odd_faces(alloc, mesh, pairs)?;
+    let odd = odd_faces(alloc, mesh, list)?;
     if let Some(f) = first_flagged(&odd) {
         return Err(ClassFault::OddFace {
             face: FaceId::new(f as u32),
         });
     }
-    if is_odd(mesh, flags, pairs) {
+    if is_odd(flagged, list) {
         Ok(())
     } else {
         Err(ClassFault::Even)
@@ -237,8 +222,18 @@ pub fn check_class(
         IsEvidence mesh.now (parity mesh.now walk.now) (seen evidence.now) → ⊥) }
 {
     let flags = joint_flags(alloc, mesh, walk, None)?;
+    let flagged = FlaggedMesh {
+        mesh,
+        flags: &flags,
+    };
     match evidence {
-        Evidence::Null(list) => check_faces(alloc, mesh, &flags, list.faces()),
-        Evidence::Odd(list) => check_pairs(alloc, mesh, &flags, list.pairs()),
+        Evidence::Null(list) => {
+            list.law_of_faces();
+            check_faces(alloc, &flagged, list)
+        }
+        Evidence::Odd(list) => {
+            list.law_of_pairs();
+            check_pairs(alloc, &flagged, list)
+        }
     }
 }

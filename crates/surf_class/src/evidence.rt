@@ -30,6 +30,14 @@ impl FaceList {
         FaceList { list }
     }
 
+    /// What every list of faces keeps.
+    pub(crate) fn law_of_faces(&self)
+        ensures rises { AllPairs (λ a b. a < b) self.now }
+    {
+        // (what a type keeps is known where one of its fields is used)
+        let _ = &self.list;
+    }
+
     /// The faces, increasing.
     pub fn faces(&self) -> &[FaceId]
         ensures list { result.now ≡ self.now }
@@ -65,6 +73,15 @@ impl PairList {
         ensures list { result ≡ list.items }
     {
         PairList { list }
+    }
+
+    /// What every list of pairs keeps.
+    pub(crate) fn law_of_pairs(&self)
+        ensures rises { AllPairs (λ a b. pair_lt a b ≡ true) self.now }
+        ensures ordered { All (λ a. a.0 < a.1) self.now }
+    {
+        // (what a type keeps is known where one of its fields is used)
+        let _ = &self.list;
     }
 
     /// The pairs, increasing, each with its lesser vertex first.

@@ -18,6 +18,7 @@ ghost use Rattle.surf_class.specs.Sides.{AreAllSidesOf, differs, is_inside};
 use crate::cocycle::cocycle_flags;
 use crate::edges::faces_beside;
 use crate::evidence::{Evidence, FaceList, PairList};
+use crate::flagged::{FlaggedMesh, PartedMesh};
 use crate::parity::joint_flags;
 use crate::sides::all_sides;
 use std::alloc::Global;
@@ -26,38 +27,36 @@ use surf_cotree::CotreeDesk;
 use surf_mesh::{HalfMesh, Walk};
 
 // Whether an edge is flagged and doesn't bound the faces inside, or does and isn't flagged.
-fn is_differing(mesh: &HalfMesh, flags: &[bool], sides: &[Option<bool>], edge: EdgeId) -> bool
-    requires flags { length flags.now ≡ edge_count mesh.now }
-    requires sides { length sides.now ≡ face_count mesh.now }
-    requires edge { edge < edge_count mesh.now }
-    ensures differs { (set : ℕ → Bool) → AreAllSidesOf set sides.now →
-        result ≡ differs mesh.now flags.now set edge }
+fn is_differing(parted: &PartedMesh<'_>, edge: EdgeId) -> bool
+    requires edge { edge < edge_count parted.now.mesh.now }
+    ensures differs { (set : ℕ → Bool) → AreAllSidesOf set parted.now.sides.now →
+        result ≡ differs parted.now.mesh.now parted.now.flags.now set
+        edge }
 {
-    let (near, far) = faces_beside(mesh, edge);
+    let sides = parted.sides;
+    let (near, far) = faces_beside(parted.mesh, edge);
     let bounds = sides[near.index()] != sides[far.index()];
-    flags[edge.index()] != bounds
+    parted.flags[edge.index()] != bounds
 }
 
 // The least place of a left edge that is flagged and doesn't bound the faces inside, or does and
 // isn't flagged.
-fn first_differing(
-    mesh: &HalfMesh,
-    left: &[EdgeId],
-    flags: &[bool],
-    sides: &[Option<bool>],
-) -> Option<usize>
-    requires left { (k : ℕ) → k < length left.now → slice_index left.now k < edge_count mesh.now }
-    requires flags { length flags.now ≡ edge_count mesh.now }
-    requires sides { length sides.now ≡ face_count mesh.now }
-    ensures first { (set : ℕ → Bool) → AreAllSidesOf set sides.now → MatchOption result
-        ((k : ℕ) → k < length left.now →
-        differs mesh.now flags.now set (slice_index left.now k) ≡ false)
+fn first_differing(parted: &PartedMesh<'_>, left: &[EdgeId]) -> Option<usize>
+    requires left { (k : ℕ) → k < length left.now →
+        slice_index left.now k < edge_count parted.now.mesh.now }
+    ensures first { (set : ℕ → Bool) → AreAllSidesOf set parted.now.sides.now →
+        MatchOption result ((k : ℕ) → k < length left.now →
+        differs parted.now.mesh.now parted.now.flags.now set
+        (slice_index left.now k) ≡ false)
         (λ n. (n < length left.now)
-        × (differs mesh.now flags.now set (slice_index left.now n) ≡ true)
-        × ((k : ℕ) → k < n → differs mesh.now flags.now set (slice_index left.now k) ≡ false)) }
+        × (differs parted.now.mesh.now parted.now.flags.now set
+        (slice_index left.now n) ≡ true)
+        × ((k : ℕ) → k < n →
+        differs parted.now.mesh.now parted.now.flags.now set
+        (slice_index left.now k) ≡ false)) }
 {
     for k in 0..left.len() {
-        if is_differing(mesh, flags, sides, left[k]) {
+        if is_differing(parted, left[k]) {
             return Some(k);
         }
     }
@@ -65,11 +64,12 @@ fn first_differing(
 }
 
 // The faces that are known to be in a set.
-fn list_inside(alloc: Global, mesh: &HalfMesh, sides: &[Option<bool>]) -> Result<FaceList, NoMemory>
-    requires count { length sides.now ≡ face_count mesh.now }
-    ensures list { IfOk result (λ l. l ≡ filter (is_inside sides.now)
-        (range_with_len 0 (face_count mesh.now))) }
+fn list_inside(alloc: Global, parted: &PartedMesh<'_>) -> Result<FaceList, NoMemory>
+    ensures list { IfOk result (λ l. l ≡ filter (is_inside parted.now.sides.now)
+        (range_with_len 0 (face_count parted.now.mesh.now))) }
 {
+    let mesh = parted.mesh;
+    let sides = parted.sides;
     let mut faces = Vec::new(alloc);
     for f in 0..mesh.faces() {
         if sides[f as usize] == Some(true) {
@@ -80,11 +80,13 @@ fn list_inside(alloc: Global, mesh: &HalfMesh, sides: &[Option<bool>]) -> Result
 }
 
 // The edges that are flagged.
-fn list_flagged(alloc: Global, mesh: &HalfMesh, flags: &[bool]) -> Result<PairList, NoMemory>
-    requires flags { length flags.now ≡ edge_count mesh.now }
-    ensures list { IfOk result (λ l. l ≡ map (ends mesh.now) (filter (is_flagged flags.now)
-        (range_with_len 0 (edge_count mesh.now)))) }
+fn list_flagged(alloc: Global, flagged: &FlaggedMesh<'_>) -> Result<PairList, NoMemory>
+    ensures list { IfOk result (λ l. l ≡ map (ends flagged.now.mesh.now)
+        (filter (is_flagged flagged.now.flags.now)
+        (range_with_len 0 (edge_count flagged.now.mesh.now)))) }
 {
+    let mesh = flagged.mesh;
+    let flags = flagged.flags;
     let mut pairs = Vec::new(alloc);
     for e in 0..mesh.edges() {
         if flags[e as usize] {
@@ -108,7 +110,11 @@ fn list_signed(
         (range_with_len 0 (edge_count mesh.now)))) }
 {
     let flags = cocycle_flags(alloc, mesh, cotree, edge)?;
-    list_flagged(alloc, mesh, &flags)
+    let flagged = FlaggedMesh {
+        mesh,
+        flags: &flags,
+    };
+    list_flagged(alloc, &flagged)
 }
 
 /// The chosen evidence of the class of a closed walk, or of how the classes of two differ.
@@ -134,12 +140,21 @@ pub fn classify(
 {
     mesh.law_of_surface();
     let flags = joint_flags(alloc, mesh, first, second)?;
-    let sides = all_sides(alloc, mesh, cotree, &flags)?;
-    match first_differing(mesh, cotree.left(), &flags, &sides) {
+    let flagged = FlaggedMesh {
+        mesh,
+        flags: &flags,
+    };
+    let sides = all_sides(alloc, cotree, &flagged)?;
+    let parted = PartedMesh {
+        mesh,
+        flags: flagged.flags,
+        sides: &sides,
+    };
+    match first_differing(&parted, cotree.left()) {
         Some(k) => {
             let edge = cotree.left()[k];
             Ok(Evidence::Odd(list_signed(alloc, mesh, cotree, edge)?))
         }
-        None => Ok(Evidence::Null(list_inside(alloc, mesh, &sides)?)),
+        None => Ok(Evidence::Null(list_inside(alloc, &parted)?)),
     }
 }

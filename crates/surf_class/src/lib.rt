@@ -25,6 +25,7 @@ mod edges;
 mod evidence;
 mod fault;
 mod finding;
+mod flagged;
 mod laws;
 mod numbers;
 mod parity;

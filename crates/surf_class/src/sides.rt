@@ -6,6 +6,7 @@ ghost use Rattle.surf_cotree.specs.Grown.{IsGrownOn};
 ghost use Rattle.surf_class.specs.Sides.{IsParted, AreSidesOf, AreAllSidesOf, side_at};
 
 use crate::edges::faces_beside;
+use crate::flagged::FlaggedMesh;
 use std::alloc::Global;
 use surf_base::{EdgeId, FaceId, NoMemory};
 use surf_cotree::CotreeDesk;
@@ -29,17 +30,16 @@ pub(crate) fn above(mesh: &HalfMesh, cotree: &CotreeDesk, face: FaceId) -> Optio
 
 // The side of a face, by the first face on its way to face 0 whose side is known.
 fn find_side(
-    mesh: &HalfMesh,
     cotree: &CotreeDesk,
-    flags: &[bool],
+    flagged: &FlaggedMesh<'_>,
     sides: &[Option<bool>],
     face: FaceId,
 ) -> bool
-    requires grown { IsGrownOn mesh.now cotree.now }
-    requires flags { length flags.now ≡ edge_count mesh.now }
-    requires sides { length sides.now ≡ face_count mesh.now }
-    requires face { face < face_count mesh.now }
-    ensures side { (set : ℕ → Bool) → IsParted mesh.now cotree.now flags.now set →
+    requires grown { IsGrownOn flagged.now.mesh.now cotree.now }
+    requires sides { length sides.now ≡ face_count flagged.now.mesh.now }
+    requires face { face < face_count flagged.now.mesh.now }
+    ensures side { (set : ℕ → Bool) →
+        IsParted flagged.now.mesh.now cotree.now flagged.now.flags.now set →
         AreSidesOf set sides.now → result ≡ set face }
 {
     let mut at = face;
@@ -48,10 +48,10 @@ fn find_side(
         if let Some(known) = sides[at.index()] {
             return side != known;
         }
-        let Some((parent, edge)) = above(mesh, cotree, at) else {
+        let Some((parent, edge)) = above(flagged.mesh, cotree, at) else {
             return side;
         };
-        side = side != flags[edge.index()];
+        side = side != flagged.flags[edge.index()];
         at = parent;
     }
 }
@@ -59,18 +59,17 @@ fn find_side(
 // Notes the side of a face, and those of the faces on its way to face 0 up to the first that is
 // known.
 fn note_sides(
-    mesh: &HalfMesh,
     cotree: &CotreeDesk,
-    flags: &[bool],
+    flagged: &FlaggedMesh<'_>,
     sides: &mut [Option<bool>],
     face: FaceId,
     side: bool,
 )
-    requires grown { IsGrownOn mesh.now cotree.now }
-    requires flags { length flags.now ≡ edge_count mesh.now }
-    requires sides { length sides.old ≡ face_count mesh.now }
-    requires face { face < face_count mesh.now }
-    ensures right { (set : ℕ → Bool) → IsParted mesh.now cotree.now flags.now set →
+    requires grown { IsGrownOn flagged.now.mesh.now cotree.now }
+    requires sides { length sides.old ≡ face_count flagged.now.mesh.now }
+    requires face { face < face_count flagged.now.mesh.now }
+    ensures right { (set : ℕ → Bool) →
+        IsParted flagged.now.mesh.now cotree.now flagged.now.flags.now set →
         side ≡ set face → AreSidesOf set sides.old → AreSidesOf set sides.new }
     ensures known { IsSome (side_at sides.new face) }
     ensures kept { (f : ℕ) → IsSome (side_at sides.old f) → IsSome (side_at sides.new f) }
@@ -79,27 +78,28 @@ fn note_sides(
     let mut side = side;
     while sides[at.index()].is_none() {
         sides[at.index()] = Some(side);
-        let Some((parent, edge)) = above(mesh, cotree, at) else {
+        let Some((parent, edge)) = above(flagged.mesh, cotree, at) else {
             return;
         };
-        side = side != flags[edge.index()];
+        side = side != flagged.flags[edge.index()];
         at = parent;
     }
 }
 
 // Notes the sides of all faces.
-fn note_all(mesh: &HalfMesh, cotree: &CotreeDesk, flags: &[bool], sides: &mut [Option<bool>])
-    requires grown { IsGrownOn mesh.now cotree.now }
-    requires flags { length flags.now ≡ edge_count mesh.now }
-    requires sides { length sides.old ≡ face_count mesh.now }
-    ensures right { (set : ℕ → Bool) → IsParted mesh.now cotree.now flags.now set →
+fn note_all(cotree: &CotreeDesk, flagged: &FlaggedMesh<'_>, sides: &mut [Option<bool>])
+    requires grown { IsGrownOn flagged.now.mesh.now cotree.now }
+    requires sides { length sides.old ≡ face_count flagged.now.mesh.now }
+    ensures right { (set : ℕ → Bool) →
+        IsParted flagged.now.mesh.now cotree.now flagged.now.flags.now set →
         AreSidesOf set sides.old → AreSidesOf set sides.new }
-    ensures known { (f : ℕ) → f < face_count mesh.now → IsSome (side_at sides.new f) }
+    ensures known { (f : ℕ) → f < face_count flagged.now.mesh.now →
+        IsSome (side_at sides.new f) }
 {
-    for f in 0..mesh.faces() {
+    for f in 0..flagged.mesh.faces() {
         let face = FaceId::new(f);
-        let side = find_side(mesh, cotree, flags, sides, face);
-        note_sides(mesh, cotree, flags, sides, face, side);
+        let side = find_side(cotree, flagged, sides, face);
+        note_sides(cotree, flagged, sides, face, side);
     }
 }
 
@@ -115,17 +115,16 @@ fn no_sides(alloc: Global, count: usize) -> Result<Vec<Option<bool>>, NoMemory>
 /// whether it is in the set without face 0. Each face is climbed over twice at most.
 pub(crate) fn all_sides(
     alloc: Global,
-    mesh: &HalfMesh,
     cotree: &CotreeDesk,
-    flags: &[bool],
+    flagged: &FlaggedMesh<'_>,
 ) -> Result<Vec<Option<bool>>, NoMemory>
-    requires grown { IsGrownOn mesh.now cotree.now }
-    requires flags { length flags.now ≡ edge_count mesh.now }
-    ensures count { IfOk result (λ v. length v.items ≡ face_count mesh.now) }
+    requires grown { IsGrownOn flagged.now.mesh.now cotree.now }
+    ensures count { IfOk result (λ v. length v.items ≡ face_count flagged.now.mesh.now) }
     ensures sides { IfOk result (λ v. (set : ℕ → Bool) →
-        IsParted mesh.now cotree.now flags.now set → AreAllSidesOf set v.items) }
+        IsParted flagged.now.mesh.now cotree.now flagged.now.flags.now set →
+        AreAllSidesOf set v.items) }
 {
-    let mut sides = no_sides(alloc, mesh.faces() as usize)?;
-    note_all(mesh, cotree, flags, &mut sides);
+    let mut sides = no_sides(alloc, flagged.mesh.faces() as usize)?;
+    note_all(cotree, flagged, &mut sides);
     Ok(sides)
 }

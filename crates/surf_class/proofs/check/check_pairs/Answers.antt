@@ -12,22 +12,22 @@ overflow_cast-f c =
 
 pub returns-in-Some-first_flagged-clause-fault : goal.returns-in-Some-first_flagged-clause-fault
 returns-in-Some-first_flagged-clause-fault c = λ chain are.
-    let mesh = c.args.mesh.now in
-    subst (λ (n : ℕ). IsOddFace mesh c.args.pairs.now n) (sym c.new.ensures)
-    (odd_face_at mesh c.law_of_surface.ensures.surface chain c.args.flags.now are c.args.pairs.now c.in_default.ensures.pair
+    let mesh = c.args.flagged.now.mesh.now in
+    subst (λ (n : ℕ). IsOddFace mesh c.args.list.now n) (sym c.new.ensures)
+    (odd_face_at mesh c.law_of_surface.ensures.surface chain c.args.flagged.now.flags.now are c.args.list.now c.in_default.ensures.pair
     c.in_ok-odd.odd.items c.in_ok-odd.ensures.flags c.in-Some-first_flagged.f
     (ap (position (λ b. b)) (sym c.deref.ensures.value) ∙ sym c.in-Some-first_flagged.ensures.face))
 
 pub returns-then-is_odd-clause-right : goal.returns-then-is_odd-clause-right
 returns-then-is_odd-clause-right c = λ chain are.
-    let mesh = c.args.mesh.now in
-    odd_right mesh c.law_of_surface.ensures.surface chain c.args.flags.now are c.args.pairs.now c.in_default.ensures.pair
-    c.in_ok-odd.odd.items c.in_ok-odd.ensures.flags c.requires.rises
+    let mesh = c.args.flagged.now.mesh.now in
+    odd_right mesh c.law_of_surface.ensures.surface chain c.args.flagged.now.flags.now are c.args.list.now c.in_default.ensures.pair
+    c.in_ok-odd.odd.items c.in_ok-odd.ensures.flags c.law_of_pairs.ensures.rises
     (ap (position (λ b. b)) (sym c.deref.ensures.value) ∙ sym c.in_default-first_flagged.ensures.face) (sym c.if-is_odd.ensures.odd)
 
 pub returns-clause-fault : goal.returns-clause-fault
 returns-clause-fault c = λ chain are.
-    let mesh = c.args.mesh.now in
-    odd_wrong mesh c.law_of_surface.ensures.surface chain c.args.flags.now are c.args.pairs.now c.in_default.ensures.pair
+    let mesh = c.args.flagged.now.mesh.now in
+    odd_wrong mesh c.law_of_surface.ensures.surface chain c.args.flagged.now.flags.now are c.args.list.now c.in_default.ensures.pair
     c.in_ok-odd.odd.items c.in_ok-odd.ensures.flags
     (ap (position (λ b. b)) (sym c.deref.ensures.value) ∙ sym c.in_default-first_flagged.ensures.face) (sym c.if-is_odd.ensures.odd)

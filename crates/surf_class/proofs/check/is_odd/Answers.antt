@@ -1,4 +1,4 @@
-use Rattle.surf_surfaces.proofs.Common.{◌≡◌, ℕ, get_or, false, subst, sym, ap, ◌∙◌, Contains, take, get_or_default, xor, edges, edge_number}
+use Rattle.surf_surfaces.proofs.Common.{◌≡◌, ◌<◌, ℕ, List, All, get_or, false, subst, sym, ap, ◌∙◌, Contains, take, get_or_default, xor, edges, edge_number}
 use Rattle.surf_treecheck.specs.Split.{is_flagged}
 use Rattle.surf_classes.specs.Evidence.{is_odd_in}
 use Rattle.surf_class.proofs.StepEdges.{odd_next, differ_is}
@@ -6,15 +6,23 @@ use Rattle.surf_class.proofs.check.is_odd.Goals as goal
 
 pub pair_edge-requires-clause-edge : goal.pair_edge-requires-clause-edge
 pair_edge-requires-clause-edge c =
-    subst (λ (p : ℕ × ℕ). Contains (edges c.args.mesh.now) p) (sym c.index-pairs-i.is)
-    (c.requires.edges c.loop-i.i c.index-pairs-i.result c.loop-i-test.true)
+    let mesh = c.args.flagged.now.mesh.now in
+    subst (λ (p : ℕ × ℕ). Contains (edges mesh) p) (sym c.index-pairs-i.is)
+    (subst (λ (xs : List (ℕ × ℕ)). All (Contains (edges mesh)) xs) (sym c.pairs-pairs.ensures.list) c.requires.edges
+    c.loop-i.i c.index-pairs-i.result c.loop-i-test.true)
+
+pub pair_edge-requires-clause-ordered : goal.pair_edge-requires-clause-ordered
+pair_edge-requires-clause-ordered c =
+    subst (λ (p : ℕ × ℕ). p.0 < p.1) (sym c.index-pairs-i.is)
+    (subst (λ (xs : List (ℕ × ℕ)). All (λ a. a.0 < a.1) xs) (sym c.pairs-pairs.ensures.list) c.pairs-pairs.ensures.ordered
+    c.loop-i.i c.index-pairs-i.result c.loop-i-test.true)
 
 pub loop-i-preserved : goal.loop-i-preserved
 loop-i-preserved c =
-    let mesh = c.args.mesh.now in
-    let ps = c.args.pairs.now in
+    let mesh = c.args.flagged.now.mesh.now in
+    let ps = c.pairs-pairs.result.now in
     let i = c.loop-i.i in
-    let flags = c.args.flags.now in
+    let flags = c.args.flagged.now.flags.now in
     let edge : c.index.result ≡ edge_number mesh (get_or ps i (0, 0)) =
     c.index.ensures ∙ c.pair_edge.ensures.edge
     ∙ ap (edge_number mesh) (c.index-pairs-i.is ∙ get_or_default ps i c.index-pairs-i.result (0, 0) c.loop-i-test.true) in

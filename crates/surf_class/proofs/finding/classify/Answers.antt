@@ -20,27 +20,25 @@ chain_of c = joint_parity c.args.mesh.now c.args.first.now (option_copied c.args
 abbrev Splits : After-first_differing → Tree → Type 0
 Splits c tree = IsSplit (cells_of (mesh_of c)) (split_with tree c.args.cotree.now)
 
-flagged : (c : After-first_differing) → AreFlags (edge_count (mesh_of c)) (chain_of c) c.deref-2.result.now
+flagged : (c : After-first_differing) → AreFlags (edge_count (mesh_of c)) (chain_of c) c.deref.result.now
 flagged c =
-    subst (λ (xs : List Bool). AreFlags (edge_count (mesh_of c)) (chain_of c) xs) (sym c.deref-2.ensures.value)
+    subst (λ (xs : List Bool). AreFlags (edge_count (mesh_of c)) (chain_of c) xs) (sym c.deref.ensures.value)
     c.in_ok-flags.ensures.flags
 
 abbrev inside : (c : After-first_differing) (tree : Tree) → Splits c tree → ℕ → Bool
 inside c tree split =
     odd_ways (mesh_of c) c.law_of_surface.ensures.surface tree c.args.cotree.now split c.args.first.now
-    (option_copied c.args.second) c.requires.closed c.deref-2.result.now (flagged c)
+    (option_copied c.args.second) c.requires.closed c.deref.result.now (flagged c)
 
 all_sides_of : (c : After-first_differing) (tree : Tree) (split : Splits c tree) →
-    AreAllSidesOf (inside c tree split) c.deref-3.result.now
+    AreAllSidesOf (inside c tree split) c.deref-2.result.now
 all_sides_of c tree split =
     let set = inside c tree split in
-    let parted : IsParted (mesh_of c) c.args.cotree.now c.deref-2.result.now set =
+    let parted : IsParted (mesh_of c) c.args.cotree.now c.deref.result.now set =
     ways_part (mesh_of c) c.law_of_surface.ensures.surface tree c.args.cotree.now split c.args.first.now
-    (option_copied c.args.second) c.requires.closed c.deref-2.result.now (flagged c) in
-    subst (λ (xs : List (Option Bool)). AreAllSidesOf set xs) (sym c.deref-3.ensures.value)
-    (c.in_ok-sides.ensures.sides set
-    (subst (λ (xs : List Bool). IsParted (mesh_of c) c.args.cotree.now xs set)
-    (c.deref-2.ensures.value ∙ sym c.deref.ensures.value) parted))
+    (option_copied c.args.second) c.requires.closed c.deref.result.now (flagged c) in
+    subst (λ (xs : List (Option Bool)). AreAllSidesOf set xs) (sym c.deref-2.ensures.value)
+    (c.in_ok-sides.ensures.sides set parted)
 
 -- at left edge k they differ, and at none before
 record DiffersFirst (mesh : Mesh) (t : CotreeTables) (flags : List Bool) (set : ℕ → Bool) (k : ℕ) : Type 0 where
@@ -81,7 +79,7 @@ pub list_signed-requires-clause-edge : goal.list_signed-requires-clause-edge
 list_signed-requires-clause-edge c =
     let i = (goal.at.list_signed-requires-clause-edge c).After-first_differing in
     let g = c.requires.grown in
-    let h = found c.args.mesh.now c.args.cotree.now c.deref-2.result.now (inside i g.tree g.split) c.left.result.now c.in-Some.k
+    let h = found c.args.mesh.now c.args.cotree.now c.deref.result.now (inside i g.tree g.split) c.left.result.now c.in-Some.k
     c.left.ensures.left (c.in-Some.ensures.first (inside i g.tree g.split) (all_sides_of i g.tree g.split)) in
     subst (λ n. n < edge_count c.args.mesh.now) (sym (edge_is c h.within)) (g.split.left_in c.in-Some.k h.within)
 
@@ -92,10 +90,10 @@ returns-in-Some-clause-chosen c = λ tree split.
     let mesh = c.args.mesh.now in
     let t = c.args.cotree.now in
     let k = c.in-Some.k in
-    let h = found mesh t c.deref-2.result.now (inside i tree split) c.left.result.now k
+    let h = found mesh t c.deref.result.now (inside i tree split) c.left.result.now k
     c.left.ensures.left (c.in-Some.ensures.first (inside i tree split) (all_sides_of i tree split)) in
     odd_chosen mesh c.law_of_surface.ensures.surface tree t split c.args.first.now (option_copied c.args.second)
-    c.requires.closed c.deref-2.result.now (flagged i) k c.in_ok-list_signed-in-Some.field-0 h.within h.here h.before
+    c.requires.closed c.deref.result.now (flagged i) k c.in_ok-list_signed-in-Some.field-0 h.within h.here h.before
     (subst (λ n. c.in_ok-list_signed-in-Some.field-0
     ≡ map (ends mesh) (filter (has_left (dual (cells_of mesh)) (cotree_of t) n) (range_with_len 0 (edge_count mesh))))
     (edge_is j h.within) c.in_ok-list_signed-in-Some.ensures.list)
@@ -118,16 +116,16 @@ returns-clause-chosen c = λ tree split.
     let mesh = c.args.mesh.now in
     let t = c.args.cotree.now in
     let set = inside i tree split in
-    let none : (k : ℕ) → k < length t.left → differs mesh c.deref-2.result.now set (get_or t.left k 0) ≡ false =
-    subst (λ xs. (k : ℕ) → k < length xs → differs mesh c.deref-2.result.now set (get_or xs k 0) ≡ false)
+    let none : (k : ℕ) → k < length t.left → differs mesh c.deref.result.now set (get_or t.left k 0) ≡ false =
+    subst (λ xs. (k : ℕ) → k < length xs → differs mesh c.deref.result.now set (get_or xs k 0) ≡ false)
     c.left.ensures.left (c.in-None.ensures.first set (all_sides_of i tree split)) in
     let some : IsBoundary mesh (chain_of i) =
     bounds_something mesh c.law_of_surface.ensures.surface tree t split c.args.first.now (option_copied c.args.second)
-    c.requires.closed c.deref-2.result.now (flagged i) none in
+    c.requires.closed c.deref.result.now (flagged i) none in
     null_found mesh c.law_of_surface.ensures.surface tree t split (chain_of i) c.deref.result.now
     (subst (λ (xs : List Bool). AreFlags (edge_count mesh) (chain_of i) xs) (sym c.deref.ensures.value)
-    c.in_ok-flags.ensures.flags) some c.in_ok-sides.sides.items c.deref-in-None.result.now
-    c.in_ok-list_inside-in-None.field-0 c.deref-in-None.ensures.value c.in_ok-sides.ensures.count
+    c.in_ok-flags.ensures.flags) some c.in_ok-sides.sides.items c.deref-2.result.now
+    c.in_ok-list_inside-in-None.field-0 c.deref-2.ensures.value c.in_ok-sides.ensures.count
     c.in_ok-sides.ensures.sides c.in_ok-list_inside-in-None.ensures.list
 
 pub returns-clause-right : goal.returns-clause-right

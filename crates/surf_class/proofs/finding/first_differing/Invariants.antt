@@ -4,5 +4,5 @@ use Rattle.surf_class.proofs.finding.first_differing.Given as goal
 
 -- no left edge before differs
 abbrev pub invariant-loop-k : goal.invariant-loop-k
-invariant-loop-k l = (set : ℕ → Bool) → AreAllSidesOf set l.sides → (j : ℕ) → j < l.k →
-    differs l.mesh l.flags set (get_or l.left j 0) ≡ false
+invariant-loop-k l = (set : ℕ → Bool) → AreAllSidesOf set l.parted.sides.now → (j : ℕ) → j < l.k →
+    differs l.parted.mesh.now l.parted.flags.now set (get_or l.left j 0) ≡ false

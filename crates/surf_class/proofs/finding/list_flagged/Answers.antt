@@ -7,8 +7,8 @@ use Rattle.surf_class.proofs.finding.list_flagged.Goals.{then-flags-e+in_ok-push
 
 pub loop-e-preserved : goal.loop-e-preserved
 loop-e-preserved c =
-    let mesh = c.args.mesh.now in
-    let pass : ℕ → Bool = is_flagged c.args.flags.now in
+    let mesh = c.args.flagged.now.mesh.now in
+    let pass : ℕ → Bool = is_flagged c.args.flagged.now.flags.now in
     let e = c.loop-e.e in
     let front = filter pass (range_with_len 0 e) in
     elim c.if-flags-e.branch [
@@ -26,12 +26,12 @@ loop-e-preserved c =
 
 pub from_pairs-requires-clause-rises : goal.from_pairs-requires-clause-rises
 from_pairs-requires-clause-rises c =
-    let pass : ℕ → Bool = is_flagged c.args.flags.now in
+    let pass : ℕ → Bool = is_flagged c.args.flagged.now.flags.now in
     subst (λ (xs : List (ℕ × ℕ)). AllPairs (λ a b. pair_lt a b ≡ true) xs) (sym c.loop-e.invariant)
-    (edges_rise c.args.mesh.now pass c.loop-e.e (omega (arith, c.loop-e.auto.e-end, c.edges-e-end.ensures.count)))
+    (edges_rise c.args.flagged.now.mesh.now pass c.loop-e.e (omega (arith, c.loop-e.auto.e-end, c.edges-e-end.ensures.count)))
 
 pub from_pairs-requires-clause-ordered : goal.from_pairs-requires-clause-ordered
 from_pairs-requires-clause-ordered c =
-    let pass : ℕ → Bool = is_flagged c.args.flags.now in
+    let pass : ℕ → Bool = is_flagged c.args.flagged.now.flags.now in
     subst (λ (xs : List (ℕ × ℕ)). All (λ a. a.0 < a.1) xs) (sym c.loop-e.invariant)
-    (edges_ordered c.args.mesh.now c.edges-e-end.ensures.surface pass c.loop-e.e (omega (arith, c.loop-e.auto.e-end, c.edges-e-end.ensures.count)))
+    (edges_ordered c.args.flagged.now.mesh.now c.edges-e-end.ensures.surface pass c.loop-e.e (omega (arith, c.loop-e.auto.e-end, c.edges-e-end.ensures.count)))

@@ -4,4 +4,4 @@ use Rattle.surf_class.proofs.finding.list_flagged.Given as goal
 
 -- the edges before
 abbrev pub invariant-loop-e : goal.invariant-loop-e
-invariant-loop-e l = l.pairs.items ≡ map (ends l.mesh) (filter (is_flagged l.flags) (range_with_len 0 l.e))
+invariant-loop-e l = l.pairs.items ≡ map (ends l.flagged.mesh.now) (filter (is_flagged l.flagged.flags.now) (range_with_len 0 l.e))

@@ -8,9 +8,9 @@ use Rattle.surf_class.proofs.finding.list_inside.Goals.{then-eq+in_ok-push, else
 
 pub loop-f-preserved : goal.loop-f-preserved
 loop-f-preserved c =
-    let pass = is_inside c.args.sides.now in
+    let pass = is_inside c.args.parted.now.sides.now in
     let f = c.loop-f.f in
-    let test = c.eq.ensures ∙ inside_is (side_at c.args.sides.now f) in
+    let test = c.eq.ensures ∙ inside_is (side_at c.args.parted.now.sides.now f) in
     elim c.if-eq.branch [
       | then-eq+in_ok-push w ↦
           let on : pass f ≡ true = sym test ∙ w.if-eq.true in
@@ -24,7 +24,7 @@ loop-f-preserved c =
 
 pub from_faces-requires : goal.from_faces-requires
 from_faces-requires c =
-    let pass = is_inside c.args.sides.now in
+    let pass = is_inside c.args.parted.now.sides.now in
     record {
       rises = subst (λ (xs : List ℕ). AllPairs (λ a b. a < b) xs) (sym c.loop-f.invariant)
           (climbing_at _ (passing_climb pass 0 c.loop-f.f));

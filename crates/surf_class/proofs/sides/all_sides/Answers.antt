@@ -6,7 +6,7 @@ use Rattle.surf_class.proofs.sides.all_sides.Goals as goal
 
 pub returns-clause-sides : goal.returns-clause-sides
 returns-clause-sides c = λ set parted.
-    let mesh = c.args.mesh.now in
+    let mesh = c.args.flagged.now.mesh.now in
     let new = c.note_all.new.sides in
     let size : length new ≡ face_count mesh = omega (arith, c.note_all.auto.sides, c.deref_mut.ensures.len, c.in_ok-sides.ensures.count, c.faces.ensures.count) in
     let none : AreSidesOf set c.deref_mut.result.now =

@@ -26,7 +26,7 @@ loop-known-preserved c =
     record {
       within = c.in-Some-above.ensures.inside.0;
       side = λ set parted.
-          climbed c.args.mesh.now c.args.cotree.now c.args.flags.now set parted c.loop-known.at _ _ c.index-in-loop-known.result
+          climbed c.args.flagged.now.mesh.now c.args.cotree.now c.args.flagged.now.flags.now set parted c.loop-known.at _ _ c.index-in-loop-known.result
           c.loop-known.invariant.within up.0 up.1 up.2 c.index-in-loop-known.ensures c.loop-known.side
           ∙ c.loop-known.invariant.side set parted;
     }

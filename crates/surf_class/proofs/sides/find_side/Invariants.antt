@@ -5,8 +5,8 @@ use Rattle.surf_class.proofs.sides.find_side.Given as goal
 -- the side so far, with that of the face to which the climb has come
 abbrev pub invariant-loop-known : goal.invariant-loop-known
 invariant-loop-known l = record {
-  within : l.at < face_count l.mesh;
-  side : (set : ℕ → Bool) → IsParted l.mesh l.cotree l.flags set → xor l.side (set l.at) ≡ set l.fn.face;
+  within : l.at < face_count l.flagged.mesh.now;
+  side : (set : ℕ → Bool) → IsParted l.flagged.mesh.now l.cotree l.flagged.flags.now set → xor l.side (set l.at) ≡ set l.fn.face;
 }
 
 abbrev pub decreases-loop-known : goal.decreases-loop-known

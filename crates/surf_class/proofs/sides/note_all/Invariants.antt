@@ -5,7 +5,7 @@ use Rattle.surf_class.proofs.sides.note_all.Given as goal
 -- what is known is right, and the faces before are known
 abbrev pub invariant-loop-f : goal.invariant-loop-f
 invariant-loop-f l = record {
-  count : length l.sides ≡ face_count l.mesh;
-  right : (set : ℕ → Bool) → IsParted l.mesh l.cotree l.flags set → AreSidesOf set l.fn.sides → AreSidesOf set l.sides;
+  count : length l.sides ≡ face_count l.flagged.mesh.now;
+  right : (set : ℕ → Bool) → IsParted l.flagged.mesh.now l.cotree l.flagged.flags.now set → AreSidesOf set l.fn.sides → AreSidesOf set l.sides;
   known : (k : ℕ) → k < l.f → IsSome (side_at l.sides k);
 }

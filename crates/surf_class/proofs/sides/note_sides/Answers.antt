@@ -4,9 +4,9 @@ use Rattle.surf_class.proofs.sides.note_sides.Goals as goal
 
 pub loop-at-preserved : goal.loop-at-preserved
 loop-at-preserved c =
-    let mesh = c.args.mesh.now in
+    let mesh = c.args.flagged.now.mesh.now in
     let t = c.args.cotree.now in
-    let flags = c.args.flags.now in
+    let flags = c.args.flagged.now.flags.now in
     let at = c.loop-at.at in
     let place = c.index-in-loop-at.result in
     let side = c.loop-at.side in

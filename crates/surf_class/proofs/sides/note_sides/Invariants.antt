@@ -5,9 +5,9 @@ use Rattle.surf_class.proofs.sides.note_sides.Given as goal
 -- the side is that of the face to which the climb has come, and what is known is right
 abbrev pub invariant-loop-at : goal.invariant-loop-at
 invariant-loop-at l = record {
-  within : l.at < face_count l.mesh;
-  count : length l.sides ≡ face_count l.mesh;
-  right : (set : ℕ → Bool) → IsParted l.mesh l.cotree l.flags set → l.fn.side ≡ set l.fn.face → AreSidesOf set l.fn.sides →
+  within : l.at < face_count l.flagged.mesh.now;
+  count : length l.sides ≡ face_count l.flagged.mesh.now;
+  right : (set : ℕ → Bool) → IsParted l.flagged.mesh.now l.cotree l.flagged.flags.now set → l.fn.side ≡ set l.fn.face → AreSidesOf set l.fn.sides →
       (l.side ≡ set l.at) × AreSidesOf set l.sides;
   known : IsSome (side_at l.sides l.fn.face) ⊎ (l.at ≡ l.fn.face);
   kept : (f : ℕ) → IsSome (side_at l.fn.sides f) → IsSome (side_at l.sides f);
