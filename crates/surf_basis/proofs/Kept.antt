@@ -1,5 +1,5 @@
 -- What is kept base by base is the basis that is chosen.
-use Rattle.surf_surfaces.proofs.Common.{◌≡◌, ℕ, suc, ◌<◌, ◌≤◌, ◌-◌, Bool, true, false, cond, List, [], ◌∷◌, ◌++◌, ◌+◌, length, filter, get_or, take, All, refl, sym, ap, ◌∙◌, subst, arith, inl, inr, slice_index, AllByRecursion, cases_lt, take_more, take_all, recursion_from_All, numbers, is_nothing, order_from_sorted, Decides-is_nothing, Split, IsSplit, Mesh, IsSurface, ArePositive, cells_of, class_of, Trees, AreChosen, Loop, comes_before, loops_at, candidates, IsChosenBasis, greedy, greedy_after, spans, two_step_law, AreBases}
+use Rattle.surf_surfaces.proofs.Common.{◌≡◌, ℕ, zero, suc, ◌<◌, ◌≤◌, ◌-◌, Bool, true, false, cond, List, [], ◌∷◌, ◌++◌, ◌+◌, length, filter, All, refl, sym, ap, ◌∙◌, subst, arith, inl, inr, slice_index, AllByRecursion, cases_lt, recursion_from_All, numbers, is_nothing, order_from_sorted, Decides-is_nothing, Split, IsSplit, Mesh, IsSurface, ArePositive, cells_of, class_of, Trees, AreChosen, Loop, comes_before, loops_at, candidates, IsChosenBasis, greedy, greedy_after, spans, two_step_law, AreBases}
 use Rattle.surf_z2.specs.Order.{merge, merge_from}
 use Rattle.surf_z2.proofs.Passing.{greedy_filtered}
 use Rattle.surf_surfaces.proofs.classes.LeastLaws.{all_each}
@@ -11,7 +11,8 @@ use Rattle.surf_choice.specs.Candidates.{signed_earlier, independent_of}
 use Rattle.surf_choice.proofs.Sifted.{all_merged, all_kept}
 use Rattle.surf_basis.specs.declared.cycle.Cycle.{Cycle}
 use Rattle.surf_basis.specs.Based.{IsOffered}
-use Rattle.surf_basis.specs.Candidates.{loop_in, loops_in, IsSigned, IsCycleOf, AreCyclesOf}
+use Rattle.surf_basis.specs.Candidates.{loop_in, loops_in, IsSigned, IsCycleOf, AreCyclesOf, cycles_with}
+use Rattle.surf_search.specs.Walks.{AreWalksOf}
 use Rattle.surf_basis.specs.Cycles.{as_loop, as_loops}
 use Rattle.surf_search.specs.Places.{HavePlacesOfBasis}
 use Rattle.surf_basis.specs.Kept.{placed_below, AreKept}
@@ -220,24 +221,20 @@ module _ (mesh : Mesh) (lengths : List ℕ) (trees : ℕ → Trees) (surface : I
       (sym (all_cycles kept cycles (recursion_from_All (IsSigned mesh lengths trees d) kept k.signed) are
       ∙ kept_whole bases kept has have k)) basis_chosen
 
--- one more cycle
-pub cycles_more : (mesh : Mesh) (lengths : List ℕ) (cs : List Signed) (cycles : List Cycle) (c : Signed) (cycle : Cycle) →
-    AreCyclesOf mesh lengths cs cycles → IsCycleOf mesh lengths c.candidate cycle →
-    AreCyclesOf mesh lengths (cs ++ c ∷ []) (cycles ++ cycle ∷ [])
-cycles_more mesh lengths [] [] c cycle are is = (is, tt)
-cycles_more mesh lengths [] (y ∷ ys) c cycle are is = absurd are
-cycles_more mesh lengths (x ∷ xs) [] c cycle are is = absurd are
-cycles_more mesh lengths (x ∷ xs) (y ∷ ys) c cycle are is = (are.0, cycles_more mesh lengths xs ys c cycle are.1 is)
-
-pub cycles_next : (mesh : Mesh) (lengths : List ℕ) (kept : List Signed) (i : ℕ) (c : Signed) (cycles more : List Cycle) (cycle : Cycle) →
-    AreCyclesOf mesh lengths (take i kept) cycles → IsCycleOf mesh lengths c.candidate cycle → i < length kept → c ≡ get_or kept i c →
-    more ≡ cycles ++ cycle ∷ [] → AreCyclesOf mesh lengths (take (i + 1) kept) more
-cycles_next mesh lengths kept i c cycles more cycle are is l same e =
-    subst (AreCyclesOf mesh lengths (take (i + 1) kept)) (sym e)
-    (subst (λ cs. AreCyclesOf mesh lengths cs (cycles ++ cycle ∷ [])) (sym (take_more kept i c l ∙ ap (λ x. take i kept ++ x ∷ []) (sym same)))
-    (cycles_more mesh lengths (take i kept) cycles c cycle are is))
-
--- all of a list
-pub cycles_all : (mesh : Mesh) (lengths : List ℕ) (kept : List Signed) (i : ℕ) (cycles : List Cycle) →
-    AreCyclesOf mesh lengths (take i kept) cycles → length kept ≤ i → AreCyclesOf mesh lengths kept cycles
-cycles_all mesh lengths kept i cycles are past = subst (λ cs. AreCyclesOf mesh lengths cs cycles) (take_all i kept past) are
+-- candidates with the walks of their loops are their cycles
+pub cycles_are : (mesh : Mesh) (lengths : List ℕ) (cs : List Signed) (walks : List (List ℕ)) → AreWalksOf mesh lengths cs walks →
+    AreCyclesOf mesh lengths cs (cycles_with cs walks)
+cycles_are mesh lengths [] walks are = tt
+cycles_are mesh lengths (c ∷ cs) [] are = absurd (let none : zero ≡ suc (length cs) = are.count in omega (arith, none))
+cycles_are mesh lengths (c ∷ cs) (w ∷ ws) are = (
+  record {
+    size = refl;
+    base = refl;
+    edge = refl;
+    walk = λ trees at left. are.each 0 c (omega arith) trees.tree at.shortest;
+  },
+  cycles_are mesh lengths cs ws (record {
+    count = let more : suc (length ws) ≡ suc (length cs) = are.count in omega (arith, more);
+    each = λ k s l. are.each (suc k) s (omega (arith, l));
+  }),
+)

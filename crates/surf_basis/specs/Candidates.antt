@@ -1,5 +1,6 @@
 -- Candidates for a basis as loops by trees of shortest walks, and their cycles.
 use Rattle.std.specs.Prelude.{ℕ, ◌≡◌, ◌<◌, IsTrue, List, [], ◌∷◌, map, Option, length, Some, None}
+use Rattle.std.specs.List.{zip}
 use Rattle.std.specs.Option.{option_map}
 use Rattle.surf_graphs.specs.Cells.{Split}
 use Rattle.surf_surfaces.specs.Mesh.{Mesh}
@@ -44,6 +45,19 @@ AreCyclesOf mesh lengths [] [] = Unit {0}
 AreCyclesOf mesh lengths [] (y ∷ ys) = ⊥
 AreCyclesOf mesh lengths (c ∷ cs) [] = ⊥
 AreCyclesOf mesh lengths (c ∷ cs) (y ∷ ys) = IsCycleOf mesh lengths c.candidate y × AreCyclesOf mesh lengths cs ys
+
+-- a candidate with a walk, as a cycle
+abbrev pub cycle_with : Signed × List ℕ → Cycle
+cycle_with p = record {
+  base = p.0.candidate.base;
+  edge = p.0.candidate.edge;
+  length = p.0.candidate.length;
+  walk = p.1;
+}
+
+-- candidates with as many walks, as cycles
+abbrev pub cycles_with : List Signed → List (List ℕ) → List Cycle
+cycles_with kept walks = map cycle_with (zip kept walks)
 
 -- a head of a desk as a candidate at its base
 abbrev pub candidate_of : TreeTables → LoopHead → Candidate

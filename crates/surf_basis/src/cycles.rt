@@ -3,7 +3,7 @@ ghost use Rattle.std.specs.Prelude.{◌≡◌, ◌<◌, All, IfOk, length};
 ghost use Rattle.surf_surfaces.specs.Surface.{edge_count};
 ghost use Rattle.surf_tree.specs.Grown.{IsGrown as IsTreeGrown};
 ghost use Rattle.surf_search.specs.Walks.{IsMeasured};
-ghost use Rattle.surf_basis.specs.Candidates.{IsInside, IsCycleOf, AreCyclesOf};
+ghost use Rattle.surf_basis.specs.Candidates.{IsInside, IsCycleOf, AreCyclesOf, cycles_with};
 
 use crate::cycle::Cycle;
 use std::alloc::Global;
@@ -11,7 +11,7 @@ use surf_base::NoMemory;
 use surf_choice::{Candidate, Signed};
 use surf_lengths::Lengths;
 use surf_loops::LoopDesk;
-use surf_mesh::HalfMesh;
+use surf_mesh::{HalfMesh, Walk};
 use surf_search::Finder;
 
 // The cycle of a candidate at the base of the tree that a desk has.
@@ -38,29 +38,22 @@ pub(crate) fn cycle_of(
     })
 }
 
-// The cycle of a candidate whose length is that of the loop of its edge, by a search near its base.
-fn found_cycle(
-    alloc: Global,
-    finder: &mut Finder<'_>,
-    candidate: Candidate,
-) -> Result<Cycle, NoMemory>
-    requires measured { IsMeasured finder.old.mesh finder.old.lengths candidate }
-    ensures cycle { IfOk result (IsCycleOf finder.old.mesh finder.old.lengths candidate) }
-    ensures same { finder.new ≡ finder.old }
+// The cycles of candidates with these walks, in order.
+fn cycles_with(alloc: Global, kept: &[Signed], walks: Vec<Walk>) -> Result<Vec<Cycle>, NoMemory>
+    ensures cycles { IfOk result (λ cycles. cycles.items ≡ cycles_with kept.now walks.items) }
 {
-    let base = candidate.base;
-    let edge = candidate.edge;
-    let length = candidate.length;
-    let walk = finder.walk(alloc, candidate)?;
-    Ok(Cycle {
-        base,
-        edge,
-        length,
+    let pairs = kept.iter().zip(walks.into_iter());
+    let cycles = pairs.map(|(signed, walk)| Cycle {
+        base: signed.candidate.base,
+        edge: signed.candidate.edge,
+        length: signed.candidate.length,
         walk,
-    })
+    });
+    Ok(cycles.collect(alloc)?)
 }
 
-// The cycles of candidates, in order.
+// The cycles of candidates whose lengths are those of the loops of their edges, in order, by one
+// search near each base.
 pub(crate) fn cycles_of(
     alloc: Global,
     finder: &mut Finder<'_>,
@@ -71,10 +64,6 @@ pub(crate) fn cycles_of(
     ensures cycles { IfOk result (λ cycles. AreCyclesOf finder.old.mesh finder.old.lengths kept.now
         cycles.items) }
 {
-    let mut cycles = Vec::with_capacity(alloc, kept.len())?;
-    for signed in kept {
-        let cycle = found_cycle(alloc, finder, signed.candidate)?;
-        cycles.push(cycle)?;
-    }
-    Ok(cycles)
+    let walks = finder.walks(alloc, kept)?;
+    cycles_with(alloc, kept, walks)
 }

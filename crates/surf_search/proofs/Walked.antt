@@ -1,5 +1,5 @@
 -- Ways up to the base of a search, and the loops of edges by them.
-use Rattle.surf_surfaces.proofs.Common.{◌≡◌, ◌≢◌, ℕ, ◌<◌, ◌≤◌, ◌/◌, ◌∷◌, ◌++◌, [], true, List, reverse, slice_index, sym, ap, ◌∙◌, subst, arith, leb-true, le-leb, primal, Tree, IsTree, Mesh, ends, IsSurface, ArePositive, cells_of, IsShortestTree, way_up, way_down}
+use Rattle.surf_surfaces.proofs.Common.{◌≡◌, ◌≢◌, ◌⊎◌, inl, inr, ℕ, ◌<◌, ◌≤◌, ◌+◌, ◌/◌, ◌∷◌, ◌++◌, [], true, List, replicate, length-replicate, get_or-replicate, length, get_or, set, reverse, slice_index, refl, sym, ap, ◌∙◌, subst, arith, cases_eq, cases_lt, leb-true, le-leb, get_or_default, get_or-set_same, get_or-set_other, length-set, primal, Tree, IsTree, Mesh, ends, IsSurface, ArePositive, cells_of, IsShortestTree, way_up, way_down}
 use Rattle.surf_graphs.proofs.Ways.{ways_go_by_parents}
 use Rattle.surf_surfaces.proofs.bases.ChoiceExists.{choice_exists}
 use Rattle.surf_surfaces.proofs.bases.FirstCycleLaws.{shortest_trees}
@@ -9,7 +9,8 @@ use Rattle.surf_graphs.proofs.Turned.{way_reversed}
 use Rattle.surf_surfaces.proofs.meshes.CellLaws.{ends_in}
 use Rattle.surf_near.specs.Near.{NearTables, IsNear, is_near}
 use Rattle.surf_choice.specs.declared.candidate.Candidate.{Candidate}
-use Rattle.surf_search.specs.Walks.{AddsWay, IsLoopWalk, IsMeasured}
+use Rattle.surf_choice.specs.declared.candidate.Signed.{Signed}
+use Rattle.surf_search.specs.Walks.{AddsWay, AreWalksOf, AreWritten, AreWrittenTo, HasReachedEnds, IsLoopWalk, IsMeasured, IsWalkOf}
 use Rattle.surf_search.proofs.Numbered.{near_parent}
 use Rattle.surf_search.proofs.Told.{half_below}
 
@@ -77,11 +78,10 @@ module _ (mesh : Mesh) (lengths : List ℕ) (surface : IsSurface mesh) (positive
       ∙ ap (λ n. tree.root ∷ way_down tree (tree.rank n) n ++ (v ∷ way_up tree (tree.rank v) v)) is_u
       ∙ ap (λ n. tree.root ∷ way_down tree (tree.rank (ends mesh e).0) (ends mesh e).0 ++ (n ∷ way_up tree (tree.rank n) n)) is_v
 
--- the ends of the edge of a candidate are reached by a search that goes half its length
-pub ends_reached : (mesh : Mesh) (lengths : List ℕ) → IsSurface mesh → ArePositive mesh lengths → (c : Candidate) (t : NearTables) →
-    IsMeasured mesh lengths c → IsNear mesh lengths c.base (c.length / 2) t →
-    (is_near t (ends mesh c.edge).0 ≡ true) × (is_near t (ends mesh c.edge).1 ≡ true)
-ends_reached mesh lengths surface positive c t m near =
+-- the ends of the edge of a candidate are reached by a search that goes half its length, or farther
+pub ends_reached : (mesh : Mesh) (lengths : List ℕ) → IsSurface mesh → ArePositive mesh lengths → (c : Candidate) (greatest : ℕ) (t : NearTables) →
+    IsMeasured mesh lengths c → c.length ≤ greatest → IsNear mesh lengths c.base (greatest / 2) t → HasReachedEnds mesh t c.edge
+ends_reached mesh lengths surface positive c greatest t m no_longer near =
     let (trees, chosen) = choice_exists mesh lengths surface positive in
     let tree = (trees c.base).tree in
     let short = (chosen c.base m.base_in).shortest in
@@ -90,8 +90,122 @@ ends_reached mesh lengths surface positive c t m near =
     m.base_in m.edge_in in
     let (u_in, v_in) = ends_in mesh surface c.edge m.edge_in in
     let size = m.size tree short in
-    let u_far : tree.rank (ends mesh c.edge).0 ≤ c.length / 2 = half_below (tree.rank (ends mesh c.edge).0) c.length (omega (arith, half.0, size)) in
-    let v_far : tree.rank (ends mesh c.edge).1 ≤ c.length / 2 = half_below (tree.rank (ends mesh c.edge).1) c.length (omega (arith, half.1, size)) in (
-      n.is_near (ends mesh c.edge).0 u_in ∙ le-leb (tree.rank (ends mesh c.edge).0) (c.length / 2) u_far,
-      n.is_near (ends mesh c.edge).1 v_in ∙ le-leb (tree.rank (ends mesh c.edge).1) (c.length / 2) v_far,
-    )
+    let u_far : tree.rank (ends mesh c.edge).0 ≤ greatest / 2 = half_below (tree.rank (ends mesh c.edge).0) greatest (omega (arith, half.0, size, no_longer)) in
+    let v_far : tree.rank (ends mesh c.edge).1 ≤ greatest / 2 = half_below (tree.rank (ends mesh c.edge).1) greatest (omega (arith, half.1, size, no_longer)) in
+    record {
+      edge_in = m.edge_in;
+      low = n.is_near (ends mesh c.edge).0 u_in ∙ le-leb (tree.rank (ends mesh c.edge).0) (greatest / 2) u_far;
+      high = n.is_near (ends mesh c.edge).1 v_in ∙ le-leb (tree.rank (ends mesh c.edge).1) (greatest / 2) v_far;
+    }
+
+-- ---- the walks of several loops
+
+-- a number below the next one is below it or the same
+before : (j k : ℕ) → j < k + 1 → j ≢ k → j < k
+before j k lt ne = elim (cases_lt j k) [
+  | inl less ↦ less
+  | inr more ↦ let same : j ≡ k = omega (arith, lt, more) in absurd (ne same)
+]
+
+module _ (mesh : Mesh) (lengths : List ℕ) (kept : List Signed) where
+  -- what is read at a place, by any default
+  base_there : (k : ℕ) (s t : Signed) → k < length kept → s ≡ get_or kept k s → (get_or kept k t).candidate.base ≡ s.candidate.base
+  base_there k s t l is = ap (λ (x : Signed). x.candidate.base) (get_or_default kept k t s l ∙ sym is)
+
+  base_same : (j k : ℕ) (s t : Signed) → j ≡ k → k < length kept → s ≡ get_or kept k s → (get_or kept j t).candidate.base ≡ s.candidate.base
+  base_same j k s t same l is = ap (λ n. (get_or kept n t).candidate.base) same ∙ base_there k s t l is
+
+  module _ (base : ℕ) (old : List (List ℕ)) where
+    -- at first nothing is written
+    pub written_first : AreWritten mesh lengths kept base 0 old old
+    written_first = record {
+      count = refl;
+      here = λ j t lt l at. absurd (omega (arith, lt));
+      others = λ j t l off. refl;
+    }
+
+    -- the walk of a candidate at the base is written
+    pub written_more : (k : ℕ) (s : Signed) (now next : List (List ℕ)) (walk : List ℕ) → AreWritten mesh lengths kept base k old now →
+        length old ≡ length kept → k < length kept → s ≡ get_or kept k s → s.candidate.base ≡ base → IsWalkOf mesh lengths s walk →
+        next ≡ set now k walk → AreWritten mesh lengths kept base (k + 1) old next
+    written_more k s now next walk w size l is at own e = record {
+      count = ap (λ (ws : List (List ℕ)). length ws) e ∙ length-set now k walk ∙ w.count;
+      here = λ j t lt j_in there. elim (cases_eq j k) [
+        | inl same ↦
+            let inside : k < length now = omega (arith, l, size, w.count) in
+            let candidate : get_or kept j t ≡ s = ap (λ n. get_or kept n t) same ∙ get_or_default kept k t s l ∙ sym is in
+            let written : get_or next j [] ≡ walk =
+            ap (λ (ws : List (List ℕ)). get_or ws j []) e ∙ ap (λ n. get_or (set now k walk) n []) same ∙ get_or-set_same now k walk [] inside in
+            subst (λ (x : Signed). IsWalkOf mesh lengths x (get_or next j [])) (sym candidate)
+            (subst (IsWalkOf mesh lengths s) (sym written) own)
+        | inr ne ↦
+            subst (IsWalkOf mesh lengths (get_or kept j t)) (sym (elsewhere j ne)) (w.here j t (before j k lt ne) j_in there)
+      ];
+      others = λ j t j_in off. elim (cases_eq j k) [
+        | inl same ↦ absurd (off (base_same j k s t same l is ∙ at))
+        | inr ne ↦ elsewhere j ne ∙ w.others j t j_in off
+      ];
+    }
+      where
+        elsewhere : (j : ℕ) → (j ≡ k → ⊥) → get_or next j [] ≡ get_or now j []
+        elsewhere j ne = ap (λ (ws : List (List ℕ)). get_or ws j []) e ∙ get_or-set_other now k j walk [] ne
+
+    -- a candidate at another base is passed over
+    pub written_past : (k : ℕ) (s : Signed) (now : List (List ℕ)) → AreWritten mesh lengths kept base k old now → k < length kept →
+        s ≡ get_or kept k s → s.candidate.base ≢ base → AreWritten mesh lengths kept base (k + 1) old now
+    written_past k s now w l is off = record {
+      count = w.count;
+      here = λ j t lt j_in there. elim (cases_eq j k) [
+        | inl same ↦ absurd (off (sym (base_same j k s t same l is) ∙ there))
+        | inr ne ↦ w.here j t (before j k lt ne) j_in there
+      ];
+      others = w.others;
+    }
+
+    -- after a search from the base of a candidate the candidates before it have their walks still, and it has its own
+    pub written_from : (k : ℕ) (s : Signed) (new : List (List ℕ)) → AreWrittenTo mesh lengths kept k old →
+        AreWritten mesh lengths kept base (length kept) old new → k < length kept → s ≡ get_or kept k s → s.candidate.base ≡ base →
+        AreWrittenTo mesh lengths kept (k + 1) new
+    written_from k s new h w l is at = record {
+      count = w.count ∙ h.count;
+      either = λ j t j_in. elim (cases_eq (get_or kept j t).candidate.base base) [
+        | inl there ↦ inr (w.here j t j_in j_in there)
+        | inr off ↦ subst (λ (x : List ℕ). (x ≡ []) ⊎ IsWalkOf mesh lengths (get_or kept j t) x) (sym (w.others j t j_in off)) (h.either j t j_in)
+      ];
+      written = λ j t lt j_in. elim (cases_eq (get_or kept j t).candidate.base base) [
+        | inl there ↦ w.here j t j_in j_in there
+        | inr off ↦
+            let ne : j ≡ k → ⊥ = λ same. off (base_same j k s t same l is ∙ at) in
+            subst (IsWalkOf mesh lengths (get_or kept j t)) (sym (w.others j t j_in off)) (h.written j t (before j k lt ne) j_in)
+      ];
+    }
+
+  -- a candidate that has a walk has its own
+  pub written_there : (k : ℕ) (walks : List (List ℕ)) → AreWrittenTo mesh lengths kept k walks → get_or walks k [] ≢ [] →
+      AreWrittenTo mesh lengths kept (k + 1) walks
+  written_there k walks h some = record {
+    count = h.count;
+    either = h.either;
+    written = λ j t lt j_in. elim (cases_eq j k) [
+      | inl same ↦ elim (h.either j t j_in) [
+        | inl none ↦ absurd (some (ap (λ n. get_or walks n []) (sym same) ∙ none))
+        | inr is ↦ is
+      ]
+      | inr ne ↦ h.written j t (before j k lt ne) j_in
+    ];
+  }
+
+  -- where no candidate has a walk
+  pub none_written : (walks : List (List ℕ)) → walks ≡ replicate (length kept) [] → AreWrittenTo mesh lengths kept 0 walks
+  none_written walks none = record {
+    count = ap (λ (ws : List (List ℕ)). length ws) none ∙ length-replicate (length kept) [];
+    either = λ j t j_in. inl (ap (λ (ws : List (List ℕ)). get_or ws j []) none ∙ get_or-replicate (length kept) j [] [] j_in);
+    written = λ j t lt j_in. absurd (omega (arith, lt));
+  }
+
+  -- all of them
+  pub all_written : (k : ℕ) (walks : List (List ℕ)) → AreWrittenTo mesh lengths kept k walks → length kept ≤ k → AreWalksOf mesh lengths kept walks
+  all_written k walks h past = record {
+    count = h.count;
+    each = λ j t j_in. h.written j t (omega (arith, j_in, past)) j_in;
+  }

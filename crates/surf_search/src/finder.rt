@@ -1,11 +1,11 @@
 //! Searches from one vertex after the other, and the loops that they find.
-ghost use Rattle.std.specs.Prelude.{ℕ, ◌≡◌, ◌<◌, true, IsTrue, All, slice_set, slice_index, map, length, IfOk, OnOk};
+ghost use Rattle.std.specs.Prelude.{ℕ, ◌≡◌, ◌<◌, ◌+◌, true, IsTrue, All, slice_set, slice_index, map, length, IfOk, OnOk};
 ghost use Rattle.surf_surfaces.specs.Surface.{edge_count, IsSurface};
 ghost use Rattle.surf_surfaces.specs.Walk.{ArePositive};
 ghost use Rattle.surf_firsts.specs.Near.{AgreeOff};
 ghost use Rattle.surf_near.specs.Links.{IsShutAt};
 ghost use Rattle.surf_near.specs.Near.{AreNearTables, IsNear};
-ghost use Rattle.surf_search.specs.Walks.{IsLoopWalk, IsMeasured};
+ghost use Rattle.surf_search.specs.Walks.{AreWalksOf, AreWrittenTo, IsMeasured};
 ghost use Rattle.surf_search.specs.Found.{surface_of, AreFound, IsFirstAt, plain_edges};
 ghost use Rattle.surf_search.specs.Passing.{is_marked, AreMarkedNear, AreShut};
 ghost use Rattle.surf_search.specs.Places.{AreDistances, radius_of};
@@ -16,7 +16,7 @@ use crate::marks::mark_all;
 use crate::reached::{Reached, radius};
 use crate::surface::SignedSurface;
 use crate::told_loops::list_loops;
-use crate::walks::loop_walk;
+use crate::walks::{greatest_at, no_walks, write_walks};
 use crate::ways::Ways;
 use std::alloc::Global;
 use std::marker::Model;
@@ -243,25 +243,56 @@ impl<'a> Finder<'a> {
         mark_all(self.tables.desk.settled(), &mut self.links, marks);
     }
 
-    /// The walk of the loop of a candidate's edge at its base, where its length is the candidate's.
-    pub fn walk(&mut self, alloc: Global, candidate: Candidate) -> Result<Walk, NoMemory>
-        requires measured { IsMeasured self.old.mesh self.old.lengths candidate }
-        ensures walk { IfOk result (IsLoopWalk self.old.mesh self.old.lengths candidate.base
-            candidate.edge) }
+    // Writes the walk of a candidate's loop, if it isn't there yet, and with it those of all others
+    // at its base, by one search that goes as far as the longest of them needs.
+    fn write_from(
+        &mut self,
+        alloc: Global,
+        k: usize,
+        kept: &[Signed],
+        walks: &mut [Walk],
+    ) -> Result<(), NoMemory>
+        requires place { k < length kept.now }
+        requires measured { All (λ s. IsMeasured self.old.mesh self.old.lengths s.candidate)
+            kept.now }
+        requires before { AreWrittenTo self.old.mesh self.old.lengths kept.now k walks.old }
+        ensures written { OnOk result (AreWrittenTo self.old.mesh self.old.lengths kept.now (k + 1)
+            walks.new) }
+        ensures count { length walks.new ≡ length walks.old }
         ensures same { self.new ≡ self.old }
     {
+        if !walks[k].vertices().is_empty() {
+            return Ok(());
+        }
         self.surface.mesh.law_of_surface();
         self.links.law_of_links();
-        self.tables
-            .desk
-            .grow(&self.links, candidate.base, candidate.length / 2);
-        loop_walk(
+        let base = kept[k].candidate.base;
+        let far = greatest_at(kept, base) / 2;
+        self.tables.desk.grow(&self.links, base, far);
+        write_walks(
             alloc,
             self.surface.mesh,
             &self.links,
             &self.tables.desk,
-            candidate.edge,
+            kept,
+            walks,
         )
+    }
+
+    /// The walks of the loops of candidates, whose lengths are those of the loops, in order. There
+    /// is one search for each base.
+    pub fn walks(&mut self, alloc: Global, kept: &[Signed]) -> Result<Vec<Walk>, NoMemory>
+        requires measured { All (λ s. IsMeasured self.old.mesh self.old.lengths s.candidate)
+            kept.now }
+        ensures walks { IfOk result (λ walks. AreWalksOf self.old.mesh self.old.lengths kept.now
+            walks.items) }
+        ensures same { self.new ≡ self.old }
+    {
+        let mut walks = no_walks(alloc, kept.len())?;
+        for k in 0..kept.len() {
+            self.write_from(alloc, k, kept, &mut walks)?;
+        }
+        Ok(walks)
     }
 
     /// The first of a limit, if there is one, and the loops at a base that aren't null and come

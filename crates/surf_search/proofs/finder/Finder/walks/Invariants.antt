@@ -1,0 +1,9 @@
+use Rattle.std.proofs.Common.{◌≡◌}
+use Rattle.surf_search.specs.Walks.{AreWrittenTo}
+use Rattle.surf_search.proofs.finder.Finder.walks.Given as goal
+
+abbrev pub invariant-loop-k : goal.invariant-loop-k
+invariant-loop-k l = record {
+  same : l.self ≡ l.fn.self;
+  written : AreWrittenTo l.fn.self.mesh l.fn.self.lengths l.kept l.k l.walks.items;
+}
