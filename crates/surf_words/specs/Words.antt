@@ -127,9 +127,9 @@ given_for sought names words = []
 -- the request of the first row that words fit
 abbrev pub request_in : List Row → List (List ℕ) → Option Request
 request_in [] words = None
-request_in (row call effect request ∷ others) words =
+request_in (row call effect asked ∷ others) words =
     if fits (words_of (codes call)) words
-    then request (λ name. given_for (codes name) (words_of (codes call)) words)
+    then asked (λ name. given_for (codes name) (words_of (codes call)) words)
     else request_in others words
 
 -- the request that words are: one of the table, or of two more rows, which the help has on a line of their own
@@ -183,7 +183,7 @@ version_text = codes "surf 1.0.0\n"
 
 -- the line of a row in the help, and the blanks before the next
 abbrev pub usage_line : Row → List ℕ
-usage_line (row call effect request) =
+usage_line (row call effect asked) =
     codes "surf " ++ codes call ++ repeat (21 - length (codes call)) (codes " ") ++ codes effect ++ codes "\n       "
 
 -- how the program is called, line by line
