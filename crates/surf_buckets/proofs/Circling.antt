@@ -1,5 +1,6 @@
 -- Taking places out of circles and putting them in.
-use Rattle.surf_z2.proofs.Common.{ℕ, zero, suc, ◌<◌, ◌≤◌, ◌≡◌, ◌≢◌, ◌+◌, refl, sym, ap, ◌∙◌, arith, inl, inr, ltb, eqb, lt-ltb, eq-eqb, ne_eqb, if◌then◌else◌, cases_eq, cases_lt, le-ltb}
+use Rattle.std.proofs.Common.{ℕ, zero, suc, ◌<◌, ◌≤◌, ◌≡◌, ◌≢◌, ◌+◌, refl, sym, ap, ◌∙◌, arith, inl, inr, ltb, eqb, lt-ltb, eq-eqb, ne_eqb, if◌then◌else◌}
+use Rattle.std.proofs.lemmas.Bool.{cases_eq, cases_lt, le-ltb}
 use Rattle.surf_buckets.specs.Circles.{nothing, bucket, home, AreInCircles, IsTakenOut, IsPutBehind}
 
 pub when : {A : Type 0} → (i j : ℕ) (x y : A) → i ≡ j → (if eqb i j then x else y) ≡ x

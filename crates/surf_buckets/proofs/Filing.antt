@@ -1,5 +1,7 @@
 -- Places in the circles of their keys.
-use Rattle.surf_z2.proofs.Common.{ℕ, ◌<◌, ◌≤◌, ◌≡◌, ◌≢◌, ◌+◌, refl, sym, arith, inl, inr, eqb, if◌then◌else◌, Option, Some, None, MatchOption, cases_eq, cases_lt}
+use Rattle.std.proofs.Common.{ℕ, ◌<◌, ◌≤◌, ◌≡◌, ◌≢◌, ◌+◌, refl, sym, arith, inl, inr, eqb, if◌then◌else◌, Option, Some, None}
+use Rattle.std.specs.Prelude.{MatchOption}
+use Rattle.std.proofs.lemmas.Bool.{cases_eq, cases_lt}
 use Rattle.surf_buckets.specs.Circles.{nothing, bucket, AreCircles, IsTakenOut, IsPutBehind, IsEmptyBucket, IsFirstFull}
 use Rattle.surf_buckets.specs.Buckets.{AreFiled, AreNear, IsNearest}
 use Rattle.surf_buckets.proofs.Circling.{when, unless, same_links, same_keys, removed, inserted, still_alone, still_waits, bucket_first, bucket_alone}

@@ -1,5 +1,6 @@
 -- The queue over lent keys.
-use Rattle.surf_z2.proofs.Common.{ℕ, ◌<◌, ◌≡◌, ◌≢◌, refl, sym, ap, ◌∙◌, subst, arith, inl, inr, List, length, get_or, set, get_or-set_same, get_or-set_other, cases_eq}
+use Rattle.std.proofs.Common.{ℕ, ◌<◌, ◌≡◌, ◌≢◌, refl, sym, ap, ◌∙◌, subst, arith, inl, inr, List, length, get_or, set, get_or-set_same, get_or-set_other}
+use Rattle.std.proofs.lemmas.Bool.{cases_eq}
 use Rattle.surf_buckets.specs.declared.lent.Link.{Link}
 use Rattle.surf_buckets.specs.Circles.{nothing, bucket, AreCircles, IsTakenOut, IsPutBehind}
 use Rattle.surf_buckets.specs.Lent.{next_of, prev_of, waiting_key, settled_key, AreLent}

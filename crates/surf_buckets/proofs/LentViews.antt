@@ -1,5 +1,9 @@
 -- What a queue over lent keys holds as it is called.
-use Rattle.surf_z2.proofs.Common.{ℕ, ◌<◌, ◌≤◌, ◌≡◌, ◌≢◌, ◌+◌, refl, sym, ap, ◌∙◌, arith, inl, inr, List, length, get_or, set, replicate, Some, None, get_or-set_same, get_or-set_other, length-set, length-replicate, cases_eq, same_lists, get_or-replicate, get_or_default, get_or-map-range_with_len, length-map-range_with_len}
+use Rattle.std.proofs.Common.{ℕ, ◌<◌, ◌≤◌, ◌≡◌, ◌≢◌, ◌+◌, refl, sym, ap, ◌∙◌, arith, inl, inr, List, length, get_or, set, replicate, Some, None, get_or-set_same, get_or-set_other}
+use Rattle.std.proofs.Math.ListN.{length-set, length-replicate}
+use Rattle.std.proofs.lemmas.Bool.{cases_eq}
+use Rattle.std.proofs.lemmas.List.{same_lists, get_or-replicate, get_or_default}
+use Rattle.std.proofs.lemmas.List.FromFn.{get_or-map-range_with_len, length-map-range_with_len}
 use Rattle.surf_heap.specs.Entries.{entry_of, lesser, IsEmpty}
 use Rattle.surf_buckets.specs.declared.lent.Link.{Link}
 use Rattle.surf_buckets.specs.Circles.{nothing, IsEmptyBucket, IsFirstFull}

@@ -1,6 +1,9 @@
 -- What keys have of each place.
-use Rattle.surf_z2.proofs.Common.{ℕ, ◌<◌, ◌≤◌, ◌≡◌, ◌≢◌, refl, sym, ap, ◌∙◌, arith, inl, inr, length, set, Option, Some, None, Bool, true, false, ◌&&◌, replicate, eqb, if◌then◌else◌, get_or, get_or-set_same, get_or-set_other, lt-ltb, length-set, length-replicate, cases_eq, cases_lt, le-ltb, get_or-map-range_with_len, length-map-range_with_len}
+use Rattle.std.proofs.Common.{ℕ, ◌<◌, ◌≤◌, ◌≡◌, ◌≢◌, refl, sym, ap, ◌∙◌, arith, inl, inr, length, set, Option, Some, None, Bool, true, false, ◌&&◌, replicate, eqb, if◌then◌else◌, get_or, get_or-set_same, get_or-set_other, lt-ltb}
+use Rattle.std.proofs.Math.ListN.{length-set, length-replicate}
+use Rattle.std.proofs.lemmas.Bool.{cases_eq, cases_lt, le-ltb}
 use Rattle.std.proofs.lemmas.List.{same_lists, get_or_past, get_or-replicate, set-get_or}
+use Rattle.std.proofs.lemmas.List.FromFn.{get_or-map-range_with_len, length-map-range_with_len}
 use Rattle.surf_heap.specs.Entries.{entry_of, lesser, IsEmpty}
 use Rattle.surf_buckets.specs.Circles.{nothing}
 use Rattle.surf_buckets.specs.Buckets.{entry_at, entries_of, IsNearest, IsNearestEntry}

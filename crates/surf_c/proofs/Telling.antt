@@ -1,5 +1,6 @@
 -- What a run over files that are told leaves in two sinks that didn't fail.
-use Rattle.surf_surfaces.proofs.Common.{◌≡◌, ◌≢◌, ◌<◌, ◌≤◌, ◌⊎◌, inl, inr, ℕ, List, [], ◌++◌, length, take, Some, refl, sym, ◌∙◌, arith, subst, cases_order}
+use Rattle.std.proofs.Common.{◌≡◌, ◌≢◌, ◌<◌, ◌≤◌, ◌⊎◌, inl, inr, ℕ, List, [], ◌++◌, length, take, Some, refl, sym, ◌∙◌, arith, subst}
+use Rattle.std.proofs.lemmas.Bool.{cases_order}
 use Rattle.surf_base.specs.Outside.{Files, HasRisen}
 use Rattle.surf_texts.specs.Outcome.{misses}
 use Rattle.surf_run.specs.Leads.{Answer, Leads}

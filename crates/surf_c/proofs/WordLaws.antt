@@ -1,6 +1,8 @@
 -- Words read one after the other.
 use Rattle.std.proofs.Common.{◌≡◌, ℕ, List, [], ◌∷◌, ◌++◌, String, sym, ◌∙◌, append_assoc, append-nil, string_bytes, All}
-use Rattle.surf_surfaces.proofs.Common.{recursion_from_All, map-append, AllByRecursion}
+use Rattle.std.proofs.lemmas.List.Elements.{recursion_from_All}
+use Rattle.std.proofs.lemmas.List.{map-append}
+use Rattle.std.specs.List.{AllByRecursion}
 use Rattle.std.specs.Str.{IsUtf8}
 use Rattle.std.specs.declared.alloc.Global.{Global}
 use Rattle.surf_words.specs.Words.{texts}

@@ -1,4 +1,5 @@
-use Rattle.surf_surfaces.proofs.Common.{◌≡◌, ℕ, refl, subst, inl, inr, cases_lt}
+use Rattle.std.proofs.Common.{◌≡◌, ℕ, refl, subst, inl, inr}
+use Rattle.std.proofs.lemmas.Bool.{cases_lt}
 use Rattle.surf_base.specs.Outside.{Files}
 use Rattle.surf_c.specs.Calls.{three, IsSaid}
 use Rattle.surf_words.specs.Words.{texts}

@@ -1,4 +1,6 @@
-use Rattle.surf_z2.proofs.Common.{◌≡◌, ◌∙◌, ap, sym, arith, length, replicate, None, with_items_is, with_items}
+use Rattle.std.proofs.Common.{◌≡◌, ◌∙◌, ap, sym, arith, length, replicate, None}
+use Rattle.std.proofs.lemmas.List.{with_items_is}
+use Rattle.std.specs.Vec.{with_items}
 use Rattle.surf_buckets.specs.Buckets.{BucketTables}
 use Rattle.surf_buckets.specs.Nodes.{key_at}
 use Rattle.surf_buckets.proofs.Views.{entries_length, none_held}

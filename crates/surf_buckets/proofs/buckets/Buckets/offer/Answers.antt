@@ -1,4 +1,6 @@
-use Rattle.surf_z2.proofs.Common.{◌≡◌, ◌<◌, ◌∙◌, length, get_or, ap, arith, with_items_is, get_or_default, with_items}
+use Rattle.std.proofs.Common.{◌≡◌, ◌<◌, ◌∙◌, length, get_or, ap, arith}
+use Rattle.std.proofs.lemmas.List.{with_items_is, get_or_default}
+use Rattle.std.specs.Vec.{with_items}
 use Rattle.surf_buckets.specs.Buckets.{BucketTables, entries_of}
 use Rattle.surf_buckets.specs.Nodes.{blank, key_at}
 use Rattle.surf_buckets.proofs.Views.{entries_length, offered_less, offered_more}

@@ -1,4 +1,6 @@
-use Rattle.surf_z2.proofs.Common.{ℕ, ◌≡◌, ap, arith, set, None, eqb, if◌then◌else◌, with_items_is, with_items}
+use Rattle.std.proofs.Common.{ℕ, ◌≡◌, ap, arith, set, None, eqb, if◌then◌else◌}
+use Rattle.std.proofs.lemmas.List.{with_items_is}
+use Rattle.std.specs.Vec.{with_items}
 use Rattle.surf_buckets.specs.Buckets.{BucketTables, entries_of, IsNearest}
 use Rattle.surf_buckets.proofs.Views.{all_none, nearest_entry, entries_without}
 use Rattle.surf_buckets.proofs.Nodes.{buckets_taken}

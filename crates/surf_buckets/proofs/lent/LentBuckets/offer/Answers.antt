@@ -1,4 +1,6 @@
-use Rattle.surf_z2.proofs.Common.{◌<◌, ◌≤◌, ◌≡◌, ◌≢◌, get_or, set, Some, subst, sym, ap, arith, with_items_is, with_items}
+use Rattle.std.proofs.Common.{◌<◌, ◌≤◌, ◌≡◌, ◌≢◌, get_or, set, Some, subst, sym, ap, arith}
+use Rattle.std.proofs.lemmas.List.{with_items_is}
+use Rattle.std.specs.Vec.{with_items}
 use Rattle.surf_heap.specs.Entries.{entry_of, lesser}
 use Rattle.surf_buckets.specs.Circles.{nothing}
 use Rattle.surf_buckets.specs.Lent.{LentTables, waiting, settled, IsFiling}

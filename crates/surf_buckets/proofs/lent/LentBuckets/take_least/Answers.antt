@@ -1,4 +1,5 @@
-use Rattle.surf_z2.proofs.Common.{◌≡◌, List, ℕ, refl, subst, sym, arith, with_items_is}
+use Rattle.std.proofs.Common.{◌≡◌, List, ℕ, refl, subst, sym, arith}
+use Rattle.std.proofs.lemmas.List.{with_items_is}
 use Rattle.surf_buckets.specs.Lent.{IsFiling, LentTables}
 use Rattle.surf_buckets.proofs.LentViews.{tables, TakesNone, TakesOne, takes_none, takes_one}
 use Rattle.surf_buckets.proofs.lent.LentBuckets.take_least.Goals as goal
