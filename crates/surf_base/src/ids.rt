@@ -4,6 +4,9 @@ ghost use Rattle.std.specs.Prelude.{◌≡◌};
 
 use std::marker::Model;
 
+/// The number that stands for none where a table holds numbers of parts.
+pub const NOBODY: u32 = u32::MAX;
+
 /// The number of a vertex, counted from 0.
 #[derive(Clone, Copy, Debug, PartialEq, Eq, PartialOrd, Ord, Hash)]
 pub struct VertexId {

@@ -17,7 +17,7 @@ mod outside;
 mod room;
 mod transfer;
 
-pub use ids::{CopyId, EdgeId, FaceId, SideId, VertexId};
+pub use ids::{CopyId, EdgeId, FaceId, NOBODY, SideId, VertexId};
 pub use limits::{
     LimitKind, MAX_ANSWER, MAX_BASIS_VERTICES, MAX_CERTIFICATE_VERTICES, MAX_COVER_LOOPS,
     MAX_COVER_NODES, MAX_FACES, MAX_LOOPS, MAX_SIDES, MAX_TEXT, MAX_VERTICES,

@@ -13,11 +13,11 @@ ghost use Rattle.surf_base.specs.declared.limits.TheConstants.{MAX_LOOPS};
 
 use crate::listing::{list_left, mark_edges};
 use crate::peeling::{hang, list_peeled};
-use crate::search::{FaceNetwork, NOBODY, span};
+use crate::search::{FaceNetwork, span};
 use crate::weights::{Listed, Weights, weights_fit};
 use std::alloc::Global;
 use std::marker::Model;
-use surf_base::{EdgeId, FaceId, MAX_LOOPS, NoMemory};
+use surf_base::{EdgeId, FaceId, MAX_LOOPS, NOBODY, NoMemory};
 use surf_bits::Bits;
 use surf_heap::Heap;
 use surf_mesh::HalfMesh;

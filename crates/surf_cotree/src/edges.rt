@@ -12,11 +12,11 @@ ghost use Rattle.surf_cotree.specs.Grown.{MarkTree, HasGrown};
 
 use crate::desk::count_loops;
 use crate::peeling::peel;
-use crate::search::{ByFlag, FaceNetwork, NOBODY, offer_neighbours};
+use crate::search::{ByFlag, FaceNetwork, offer_neighbours};
 use crate::weights::Weights;
 use std::alloc::Global;
 use std::marker::Model;
-use surf_base::{EdgeId, NoMemory};
+use surf_base::{EdgeId, NOBODY, NoMemory};
 use surf_heap::Heap;
 use surf_mesh::HalfMesh;
 

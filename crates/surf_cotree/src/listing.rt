@@ -6,8 +6,7 @@ ghost use Rattle.surf_z2.specs.Parity.{any_below};
 ghost use Rattle.surf_base.specs.Tables.{nobody, at};
 ghost use Rattle.surf_cotree.specs.Searches.{is_unmarked as unmarked};
 
-use crate::search::NOBODY;
-use surf_base::EdgeId;
+use surf_base::{EdgeId, NOBODY};
 
 // Marks the edges from the faces to their parents.
 pub(crate) fn mark_edges(up: &[u32], marks: &mut [bool])

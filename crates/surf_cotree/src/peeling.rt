@@ -9,8 +9,8 @@ ghost use Rattle.surf_mesh.specs.Links.{side_link};
 ghost use Rattle.surf_cotree.specs.Searches.{outside, reached};
 ghost use Rattle.surf_cotree.specs.Peeling.{IsOnlyEdge, TakesLeaf, IsPeeledBy, IsPeeledTo, IsHungBy};
 
-use crate::search::{FaceNetwork, NOBODY};
-use surf_base::{EdgeId, FaceId, SideId};
+use crate::search::FaceNetwork;
+use surf_base::{EdgeId, FaceId, NOBODY, SideId};
 use surf_mesh::HalfMesh;
 
 // A face with more sides than these is walked round only where it may hang by one edge, which the

@@ -10,12 +10,9 @@ ghost use Rattle.surf_base.specs.Tables.{nobody, at};
 ghost use Rattle.surf_cotree.specs.Searches.{heaviest, reached, outside, flag, IsOffered, IsPrim, spanned_tree};
 
 use crate::weights::Weights;
-use surf_base::{EdgeId, FaceId, SideId};
+use surf_base::{EdgeId, FaceId, NOBODY, SideId};
 use surf_heap::Heap;
 use surf_mesh::HalfMesh;
-
-/// Stands for no edge, and for the depth of a face that isn't reached.
-pub(crate) const NOBODY: u32 = u32::MAX;
 
 /// What a search over the faces sees: a mesh, whose edges join faces where they have no mark.
 #[derive(Drop)]

@@ -6,11 +6,10 @@ ghost use Rattle.surf_cutter.specs.Boundary.{IsBoundary};
 ghost use Rattle.surf_cutter.specs.Opened.{mesh_of, IsOpenedInOrder};
 ghost use Rattle.surf_cutter.specs.Rims.{AreRims, AreReaches, sides_of, with_reach, other_reach};
 
-use crate::NOBODY;
 use crate::disc_cut::{Bordered, DiscCut};
 use crate::opened::OpenDisc;
 use std::alloc::Global;
-use surf_base::{NoMemory, SideId};
+use surf_base::{NOBODY, NoMemory, SideId};
 
 // A border side at a copy and the copy to which it leads; `NOBODY` where the side is missing yet.
 type Reach = (u32, u32);

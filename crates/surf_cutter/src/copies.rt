@@ -11,10 +11,9 @@ ghost use Rattle.surf_base.specs.Tables.{nobody};
 ghost use Rattle.surf_cutter.specs.Copies.{AreLabelsBelow, AreNumberedTo, HaveOneLabel, IsRowAt};
 ghost use Rattle.surf_cutter.specs.Faces.{AreRenumberedTo};
 
-use crate::NOBODY;
 use crate::faces::OpenFaces;
 use std::alloc::Global;
-use surf_base::{CopyId, NoMemory, SideId, VertexId};
+use surf_base::{CopyId, NOBODY, NoMemory, SideId, VertexId};
 use surf_mesh::HalfMesh;
 use surf_slit::labels_along;
 

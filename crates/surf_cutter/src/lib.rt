@@ -22,9 +22,6 @@ mod opened;
 mod taking;
 mod trimming;
 
-// What stands for no number and for no side.
-const NOBODY: u32 = u32::MAX;
-
 pub use along_tree::{cut_full, cut_through, cut_trim, disc_outside};
 pub use kind::{CutFault, CutKind};
 pub use opened::{OpenDisc, Opened};

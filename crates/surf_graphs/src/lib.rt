@@ -9,17 +9,16 @@
 //! - A chain is a set of edges. It is even where an even number of its edges end at each vertex,
 //!   and null where it is the boundary of a set of faces.
 //! - A split is a spanning tree of the vertices, a spanning tree of the faces over other edges (the
-//!   cotree), and the edges left over, of which there are 2 - χ (`left_edges_count`).
+//!   cotree), and the edges left over, of which there are 2 - χ (`law_of_left_count`).
 //! - Each edge has a signature, a set of left edges. An even chain is null exactly where the
-//!   signatures of its edges sum to zero (`null_chains`), so independence is decided by signatures
-//!   (`independent_chains`).
+//!   signatures of its edges sum to zero (`law_of_null_chains`), so independence is decided by
+//!   signatures (`law_of_independent_chains`).
 //! - Through a tree, each edge has a loop. An even chain is the sum of the loops of its edges
-//!   (`even_chains_are_sums_of_loops`). With a shortest tree and a heaviest cotree the loops of the
-//!   left edges are a least system of loops at the root (`left_loops_are_least`), and cycles that
-//!   cover the loops through the shortest trees at all vertices are a least basis
-//!   (`covering_cycles_are_least`).
-//! - Trees grow by an edge at a time (`trees_grow`, `heavy_trees_grow`), which is how programs find
-//!   them.
+//!   (`law_of_even_chains`). With a shortest tree and a heaviest cotree the loops of the left edges
+//!   are a least system of loops at the root (`law_of_least_loops`), and cycles that cover the loops
+//!   through the shortest trees at all vertices are a least basis (`law_of_covering_cycles`).
+//! - Trees grow by an edge at a time (`law_of_growing_trees`, `law_of_growing_heavy_trees`), which
+//!   is how programs find them.
 //!
 //! Trees and cotrees are those of Eppstein 2003, "Dynamic generators of topologically embedded
 //! graphs"; the loops of a heaviest cotree those of Erickson and Whittlesey, "Greedy Optimal

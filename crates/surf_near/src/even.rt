@@ -7,7 +7,7 @@ ghost use Rattle.surf_near.specs.Searching.{IsBlank, IsFound, HasLooked, IsQueue
 
 use crate::links::Links;
 use crate::tables::{Choice, NEVER, Tables};
-use surf_base::VertexId;
+use surf_base::{NOBODY, VertexId};
 
 // Looks at the links of the listed vertex at a place: chooses its parent and its least vertex among
 // the settled neighbours, and lists the others, as far as the radius.
@@ -30,8 +30,8 @@ fn look_ahead(
     let d = tables.distance[v.index()];
     let next = d + u64::from(size);
     let mut best = Choice {
-        parent: u32::MAX,
-        up: u32::MAX,
+        parent: NOBODY,
+        up: NOBODY,
         least: v.number(),
     };
     for link in links.at(v) {

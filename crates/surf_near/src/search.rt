@@ -9,7 +9,7 @@ ghost use Rattle.surf_near.specs.Searching.{IsShort, Chooses, Offers, IsBlank, I
 use crate::fringe::Fringe;
 use crate::links::{Links, length_past};
 use crate::tables::{Choice, NEVER, Tables};
-use surf_base::VertexId;
+use surf_base::{NOBODY, VertexId};
 
 // Looks at the links of a vertex that was just settled: chooses its parent and its least vertex
 // among the settled neighbours, and offers the others to the fringe, as far as the radius.
@@ -36,8 +36,8 @@ fn look_round(
 {
     let d = distance[v.index()];
     let mut best = Choice {
-        parent: u32::MAX,
-        up: u32::MAX,
+        parent: NOBODY,
+        up: NOBODY,
         least: v.number(),
     };
     let around = links.around(v);

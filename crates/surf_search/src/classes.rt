@@ -3,14 +3,11 @@ ghost use Rattle.std.specs.Prelude.{ℕ, ◌≡◌, ◌<◌, ◌≤◌, ◌+◌,
 
 use std::alloc::Global;
 use std::marker::Model;
-use surf_base::NoMemory;
+use surf_base::{NOBODY, NoMemory};
 use surf_bits::Signature;
 
 // How many chains there are.
 const CHAINS: u64 = 1024;
-
-// What stands where a chain ends: no class has this number.
-const NOBODY: u32 = u32::MAX;
 
 // What a class has in its chain: its hash, and the number of the class behind it.
 #[derive(Clone, Copy)]

@@ -11,12 +11,12 @@ ghost use Rattle.surf_tree.specs.Grown.{IsGrown};
 
 use crate::even::{even_length, greatest_length, settle_even};
 use crate::network::MeshNetwork;
-use crate::parents::{NOBODY, mark_edges, set_parents};
+use crate::parents::{mark_edges, set_parents};
 use crate::search::settle;
 use crate::short::settle_short;
 use std::alloc::Global;
 use std::marker::Model;
-use surf_base::{EdgeId, NoMemory, VertexId};
+use surf_base::{EdgeId, NOBODY, NoMemory, VertexId};
 use surf_buckets::{BUCKETS, LentBuckets};
 use surf_heap::Heap;
 use surf_lengths::Lengths;

@@ -10,9 +10,7 @@ ghost use Rattle.surf_base.specs.Tables.{nobody, at};
 ghost use Rattle.surf_tree.specs.Searches.{IsLeastTight};
 
 use crate::network::{MeshNetwork, Network};
-
-/// Stands for no parent.
-pub(crate) const NOBODY: u32 = u32::MAX;
+use surf_base::NOBODY;
 
 /// The least neighbour of a node from which a link's length leads to the node's distance, and the
 /// number of the edge below the link. `u32::MAX` stands for none.
