@@ -7,7 +7,7 @@ ghost use Rattle.surf_search.specs.Places.{has_length, lengths_at};
 ghost use Rattle.surf_search.specs.Signing.{AreSigned};
 
 use surf_base::{EdgeId, NoMemory, VertexId};
-use surf_choice::{Candidate, Choice, Signed, copy_of, copy_signature};
+use surf_choice::{Candidate, Choice, Signed, copy_of};
 use surf_search::{Finder, keep_loops};
 
 // The greatest of some lengths, and 0 where there is none.
@@ -35,7 +35,7 @@ fn list_based(found: &[Signed], base: VertexId, based: &mut Vec<Signed>) -> Resu
         based.push(Signed {
             candidate,
             from: signed.from,
-            signature: copy_signature(&signed.signature),
+            signature: signed.signature.copy(),
         })?;
     }
     Ok(())

@@ -41,6 +41,13 @@ impl Signature {
         Signature { words }
     }
 
+    /// The same set once more.
+    pub fn copy(&self) -> Signature
+        ensures same { result ≡ self.now }
+    {
+        Signature { words: self.words }
+    }
+
     /// The same set, lent.
     pub fn bits(&self) -> Bits<'_>
         ensures { result ≡ self.now }

@@ -30,15 +30,6 @@ pub fn comes_before(c: &Candidate, d: &Candidate) -> bool
     c < d
 }
 
-/// A copy of a signature.
-pub fn copy_signature(signature: &Signature) -> Signature
-    ensures same { result ≡ signature.now }
-{
-    let mut copy = Signature::zero();
-    copy.add(signature.bits());
-    copy
-}
-
 /// A copy of a candidate with its signature.
 pub fn copy_of(signed: &Signed) -> Signed
     ensures same { result ≡ signed.now }
@@ -46,6 +37,6 @@ pub fn copy_of(signed: &Signed) -> Signed
     Signed {
         candidate: signed.candidate,
         from: signed.from,
-        signature: copy_signature(&signed.signature),
+        signature: signed.signature.copy(),
     }
 }

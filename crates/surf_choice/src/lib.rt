@@ -20,5 +20,5 @@ mod choosing;
 mod echelon;
 mod merging;
 
-pub use candidate::{Candidate, Signed, comes_before, copy_of, copy_signature};
+pub use candidate::{Candidate, Signed, comes_before, copy_of};
 pub use choosing::Choice;

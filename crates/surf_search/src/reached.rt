@@ -9,7 +9,7 @@ use crate::surface::SignedSurface;
 use crate::ways::Ways;
 use surf_base::{EdgeId, VertexId};
 use surf_bits::Signature;
-use surf_choice::{Candidate, copy_signature};
+use surf_choice::Candidate;
 use surf_near::{Link, Links, NearDesk};
 
 /// What a search from a base has reached, on a surface whose vertices have links. Lengths are those
@@ -89,7 +89,7 @@ pub(crate) fn class_of(reached: &Reached<'_, '_>, v: VertexId, link: &Link) -> S
     requires between { IsTrue (is_between (reached_at reached.now) link.now.edge) }
     ensures told { result ≡ (told_loop (reached_at reached.now) link.now.edge).signature }
 {
-    let mut class = copy_signature(reached.ways.class(v));
+    let mut class = reached.ways.class(v).copy();
     class.add(reached.surface.signatures.signature(link.edge));
     class.add(reached.ways.class(link.to).bits());
     class

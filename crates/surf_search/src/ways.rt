@@ -11,7 +11,6 @@ use std::alloc::Global;
 use std::marker::Model;
 use surf_base::{EdgeId, NoMemory, VertexId};
 use surf_bits::Signature;
-use surf_choice::copy_signature;
 use surf_cotree::CotreeDesk;
 use surf_near::{Links, NearDesk};
 
@@ -56,7 +55,7 @@ fn number_beyond(
     if plain[edge.index()] {
         return Ok(above);
     }
-    let mut class = copy_signature(classes.class(above));
+    let mut class = classes.class(above).copy();
     class.add(signatures.signature(edge));
     let sum = classes.hash(above) ^ hash;
     classes.number_of(class, sum)

@@ -9,8 +9,8 @@ loop-signed-preserved c =
     let own : Signed = record {
       candidate = record { length = s.candidate.length; base = c.args.base; edge = s.candidate.edge };
       from = s.from;
-      signature = c.copy_signature.result;
+      signature = c.copy.result;
     } in
     based_more c.args.base c.args.found.now c.loop-signed.signed-index s own c.loop-signed.based.items c.push.new.self.items c.loop-signed.invariant
     c.loop-signed-test.true c.signed-item.is
-    (ap (λ n. record { candidate = own.candidate; from = s.from; signature = n }) c.copy_signature.ensures.same) c.in_ok-push.ensures.items
+    (ap (λ n. record { candidate = own.candidate; from = s.from; signature = n }) c.copy.ensures.same) c.in_ok-push.ensures.items
