@@ -1,12 +1,13 @@
 -- The vertex lines and colours of a text are clean.
-use Rattle.surf_surfaces.proofs.Common.{◌≡◌, ◌+◌, ℕ, zero, suc, Bool, true, List, [], ◌∷◌, length, take, drop, Option, Some, None, Result, Ok, Err, refl, ap, subst, inl, inr, nat_le, cases_Bool, leb-true, All-nil, All-cons}
+use Rattle.surf_surfaces.proofs.Common.{◌≡◌, ◌+◌, ℕ, zero, suc, Bool, true, List, [], ◌∷◌, length, take, drop, Result, Ok, Err, refl, ap, subst, inl, inr, nat_le, cases_Bool, leb-true, All-nil, All-cons}
 use Rattle.std.specs.List.{All}
 use Rattle.surf_text.specs.Text.{TextLine, rest_after, tokens_of, lines_of}
 use Rattle.surf_off.specs.declared.fault.OffFault.{OffFault}
 use Rattle.surf_off.specs.declared.header.Header.{Header as Keyword}
-use Rattle.surf_off.specs.Keywords.{header_of}
 use Rattle.surf_base.specs.Gives.{◌>>=◌}
-use Rattle.surf_off.specs.Off.{Head, head_with, head_if, head_on, head_of, with_line, vertices_at, Face, FaceLines, size_of, few_sides, corners_at, distinct, first_repeat, face_of, with_face, faces_at}
+use Rattle.surf_off.specs.Off.{Head, head_with, head_of, vertices_at, Face, FaceLines, size_of, few_sides, corners_at, distinct, first_repeat, face_of, faces_at}
+use Rattle.surf_off.specs.Gives.{with_line}
+use Rattle.surf_off.proofs.FaceLines.{with_face}
 use Rattle.surf_off.specs.Clean.{IsClean, IsVertexLine, IsOffParts}
 use Rattle.surf_off.proofs.CleanLines.{AllClean, clean_lines, clean_rest}
 
@@ -36,18 +37,14 @@ with_clean header n (w ∷ ws) lines head is all = let e : lines ≡ head.lines 
 with_clean header n [] [] head is all = absurd cc
 with_clean header n [] (line ∷ lines) head is all = let e : lines ≡ head.lines = ap head_lines is in subst AllClean e all.1
 
-if_clean : (found : Option Keyword) (n : ℕ) (words : List (List ℕ)) (lines : List TextLine) (head : Head) → head_if found n words lines ≡ Ok head → AllClean lines → AllClean head.lines
-if_clean None n words lines head is all = absurd cc
-if_clean (Some header) n words lines head is all = with_clean header n words lines head is all
-
-on_clean : (n : ℕ) (words : List (List ℕ)) (lines : List TextLine) (head : Head) → head_on n words lines ≡ Ok head → AllClean lines → AllClean head.lines
-on_clean n [] lines head is all = absurd cc
-on_clean n (w ∷ ws) lines head is all = if_clean (header_of w) n ws lines head is all
-
 head_clean : (lines : List TextLine) (head : Head) → head_of lines ≡ Ok head → AllClean lines → AllClean head.lines
 unfolding head_of
 head_clean [] head is all = absurd cc
-head_clean (line ∷ lines) head is all = on_clean line.number (tokens_of line.bytes) lines head is all.1
+head_clean (line ∷ lines) head is all = at _ is
+  where
+    at : (read : Result Keyword OffFault) → read >>= (λ header. head_with header line.number (drop 1 (tokens_of line.bytes)) lines) ≡ Ok head → AllClean head.lines
+    at (Ok header) is = with_clean header line.number (drop 1 (tokens_of line.bytes)) lines head is all.1
+    at (Err e) is = absurd cc
 
 -- vertex lines that are read, and the lines behind them
 record CleanRead (read : Result (List (List ℕ) × List TextLine) OffFault) : Type 0 where

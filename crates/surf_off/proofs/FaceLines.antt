@@ -3,7 +3,12 @@ use Rattle.surf_surfaces.proofs.Common.{◌≡◌, ◌<◌, ◌≤◌, ◌+◌, 
 use Rattle.surf_text.specs.Text.{TextLine}
 use Rattle.surf_off.specs.declared.fault.OffFault.{OffFault}
 use Rattle.surf_off.specs.declared.fault.OffFault.TheVariants.{Early}
-use Rattle.surf_off.specs.Off.{Face, FaceLines, with_face, face_of, faces_at}
+use Rattle.surf_base.specs.Gives.{◌>>=◌}
+use Rattle.surf_off.specs.Off.{Face, FaceLines, face_of, faces_at}
+
+-- a face in front of those that are read behind it
+abbrev pub with_face : Face → Result FaceLines OffFault → Result FaceLines OffFault
+with_face face read = read >>= λ rest. Ok (record { faces = face.corners ∷ rest.faces; colours = face.colour ∷ rest.colours; lines = rest.lines })
 
 -- the faces and colours that were read before, and those that are still read
 abbrev pub with_faces : List (List ℕ) → List (List ℕ) → Result FaceLines OffFault → Result FaceLines OffFault

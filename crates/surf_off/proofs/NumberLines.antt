@@ -5,7 +5,8 @@ use Rattle.std.proofs.Math.Seq.{take-append_seam, drop-append_seam}
 use Rattle.surf_text.specs.Text.{is_blank, is_line_end, is_comment_sign, is_nonempty, uncommented, words_of, tokens_of, trimmed_front, trimmed_back, trimmed, before_some, behind_word, behind_words, rest_after}
 use Rattle.surf_text.proofs.Words.{words_first}
 use Rattle.surf_off.specs.Clean.{IsClean}
-use Rattle.surf_off.specs.Written.{spaced_text, colour_text}
+use Rattle.surf_text.specs.Numbers.{numbers_text}
+use Rattle.surf_off.specs.Written.{colour_text}
 use Rattle.surf_off.proofs.CleanLines.{none_head, none_tail, trimmed_is, trimmed_fronts, trimmed_backs}
 use Rattle.surf_off.proofs.Decimals.{word_decimal}
 
@@ -71,10 +72,10 @@ back_space (x ∷ xs) tail some dark same = ap (before_some 32) (back_word_then 
 
 -- numbers, each behind a space, and then a colour
 abbrev pub tail_text : List ℕ → List ℕ → List ℕ
-tail_text us colour = spaced_text us ++ colour_text colour
+tail_text us colour = numbers_text us ++ colour_text colour
 
 pub tail_more : (u : ℕ) (us colour : List ℕ) → tail_text (u ∷ us) colour ≡ 32 ∷ (decimal u ++ tail_text us colour)
-tail_more u us colour = ap (λ (t : List ℕ). 32 ∷ t) (append_assoc (decimal u) (spaced_text us) (colour_text colour))
+tail_more u us colour = ap (λ (t : List ℕ). 32 ∷ t) (append_assoc (decimal u) (numbers_text us) (colour_text colour))
 
 opens_tail : (us colour : List ℕ) → opens (tail_text us colour) ≡ true
 opens_tail [] [] = refl

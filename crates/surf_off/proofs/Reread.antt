@@ -4,7 +4,8 @@ use Rattle.std.specs.List.{list_any, slice_split, All, AllPairs, zip}
 use Rattle.surf_text.specs.Text.{TextLine, is_line_end, uncommented, trimmed, tokens_of, words_of, onto_lines, numbered_from, rest_after}
 use Rattle.surf_off.specs.Off.{vertices_at, size_of, corners_at, first_repeat, face_of, faces_at}
 use Rattle.surf_off.specs.Clean.{IsClean, IsVertexLine}
-use Rattle.surf_off.specs.Written.{lines_text, spaced_text, colour_text, face_text, faces_text}
+use Rattle.surf_text.specs.Numbers.{numbers_text}
+use Rattle.surf_off.specs.Written.{lines_text, colour_text, face_text, faces_text}
 use Rattle.surf_off.proofs.CleanLines.{none_head, none_tail}
 use Rattle.surf_off.proofs.Decimals.{whole_decimal}
 use Rattle.surf_off.proofs.NumberLines.{Small, number_line, tail_text, uncommented_is, clean_numbers, tokens_numbers, rest_numbers}
@@ -121,8 +122,8 @@ faces_again v (f ∷ fs) (c ∷ cs) sides n rest good silent =
     let l = number_line k f c in
     let text : faces_text (zip (f ∷ fs) (c ∷ cs)) ++ rest ≡ l ++ 10 ∷ (more ++ rest) =
     append_assoc (face_text f c) more rest
-    ∙ append_assoc (decimal k) (spaced_text f ++ (colour_text c ++ codes "\n")) (more ++ rest)
-    ∙ ap (λ (t : List ℕ). decimal k ++ t) (append_assoc (spaced_text f) (colour_text c ++ codes "\n") (more ++ rest) ∙ ap (λ (t : List ℕ). spaced_text f ++ t) (append_assoc (colour_text c) (codes "\n") (more ++ rest)) ∙ sym (append_assoc (spaced_text f) (colour_text c) (10 ∷ (more ++ rest))))
+    ∙ append_assoc (decimal k) (numbers_text f ++ (colour_text c ++ codes "\n")) (more ++ rest)
+    ∙ ap (λ (t : List ℕ). decimal k ++ t) (append_assoc (numbers_text f) (colour_text c ++ codes "\n") (more ++ rest) ∙ ap (λ (t : List ℕ). numbers_text f ++ t) (append_assoc (colour_text c) (codes "\n") (more ++ rest)) ∙ sym (append_assoc (numbers_text f) (colour_text c) (10 ∷ (more ++ rest))))
     ∙ sym (append_assoc (decimal k) (tail_text f c) (10 ∷ (more ++ rest))) in
     let first : lines_from n (faces_text (zip (f ∷ fs) (c ∷ cs)) ++ rest) ≡ record { number = n; bytes = l } ∷ lines_from (n + 1) (more ++ rest) =
     ap (lines_from n) text ∙ clean_first n l (more ++ rest) (decimal k) _ (clean_numbers k f c g.1 g.2 g.3) (tokens_numbers k f c g.1 g.2 g.3) in

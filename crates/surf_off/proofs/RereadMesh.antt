@@ -79,13 +79,13 @@ module _ (h : Header) (v f e : ℕ) (small_v : v < 2 ^ 64) (small_f : f < 2 ^ 64
 
 pub mesh_again : (h : Header) (lines faces colours : List (List ℕ)) (e : ℕ) (rest : List ℕ) → AllLines lines → AllFaces (length lines) faces colours → Silent rest
     → length lines < 2 ^ 64 → length faces < 2 ^ 64 → e < 2 ^ 64
-    → off_without_limits (mesh_text h lines faces colours e ++ rest) ≡ Ok (record { header = h; vertex_lines = lines; colours = colours }, record { vertices = length lines; faces = faces })
+    → off_without_limits (mesh_text (record { header = h; vertex_lines = lines; colours = colours }) faces e ++ rest) ≡ Ok (record { header = h; vertex_lines = lines; colours = colours }, record { vertices = length lines; faces = faces })
 unfolding off_in
 mesh_again h lines faces colours e rest good all silent small_v small_f small_e =
     let v = length lines in
     let f = length faces in
     let last = faces_text (zip faces colours) ++ rest in
-    let text : mesh_text h lines faces colours e ++ rest ≡ head_text h v f e ++ (lines_text lines ++ last) =
+    let text : mesh_text (record { header = h; vertex_lines = lines; colours = colours }) faces e ++ rest ≡ head_text h v f e ++ (lines_text lines ++ last) =
     append_assoc (head_text h v f e) (lines_text lines ++ faces_text (zip faces colours)) rest ∙ ap (λ (t : List ℕ). head_text h v f e ++ t) (append_assoc (lines_text lines) (faces_text (zip faces colours)) rest) in
     let head = head_again h v f e small_v small_f small_e (lines_text lines ++ last) in
     let counts = counts_again h v f e small_v small_f small_e (lines_text lines ++ last) in

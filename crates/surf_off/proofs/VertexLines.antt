@@ -3,7 +3,8 @@ use Rattle.surf_surfaces.proofs.Common.{◌≡◌, ◌<◌, ◌≤◌, ◌+◌, 
 use Rattle.surf_text.specs.Text.{TextLine, tokens_of}
 use Rattle.surf_off.specs.declared.fault.OffFault.{OffFault}
 use Rattle.surf_off.specs.declared.fault.OffFault.TheVariants.{VertexLine, Early}
-use Rattle.surf_off.specs.Off.{with_line, vertices_at}
+use Rattle.surf_off.specs.Gives.{with_line}
+use Rattle.surf_off.specs.Off.{vertices_at}
 
 abbrev pub Read : Type 0
 Read = Result (List (List ℕ) × List TextLine) OffFault

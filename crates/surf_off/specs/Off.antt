@@ -3,7 +3,8 @@
 -- vertices, then each face as a size, that many vertex numbers from 0, and a colour. Here each vertex and each
 -- face is a line. The number of edges is unread.
 use Rattle.std.specs.Prelude.{◌+◌, ℕ, zero, suc, Bool, true, false, ◌==◌, ◌&&◌, nat_lt, nat_le, List, [], ◌∷◌, ◌++◌}
-use Rattle.std.specs.Prelude.{length, take, drop, Option, Some, None, Result, Ok, Err, if◌then◌else◌}
+use Rattle.std.specs.Prelude.{length, take, drop, slice_get, Option, Some, None, option_and_then, ok_or, Result, Ok}
+use Rattle.std.specs.Prelude.{Err, if◌then◌else◌}
 use Rattle.std.specs.List.{list_any}
 use Rattle.surf_base.specs.Gives.{◌>>=◌}
 use Rattle.surf_base.specs.declared.limits.LimitKind.TheVariants.{Vertices, Faces, Sides}
@@ -30,42 +31,24 @@ head_with header n [] [] = Err (Counts 0)
 head_with header n [] (line ∷ lines) =
     Ok (record { header = header; number = line.number; counts = tokens_of line.bytes; lines = lines })
 
-abbrev pub head_if : Option Keyword → ℕ → List (List ℕ) → List TextLine → Result Head OffFault
-head_if None n words lines = Err (Header n)
-head_if (Some header) n words lines = head_with header n words lines
-
-abbrev pub head_on : ℕ → List (List ℕ) → List TextLine → Result Head OffFault
-head_on n [] lines = Err (Header n)
-head_on n (word ∷ words) lines = head_if (header_of word) n words lines
-
 -- the keyword is the first token of all
 unfoldable pub head_of : List TextLine → Result Head OffFault
 head_of [] = Err (Header 0)
-head_of (line ∷ lines) = head_on line.number (tokens_of line.bytes) lines
+head_of (line ∷ lines) = do
+  header ← ok_or (option_and_then header_of (slice_get (tokens_of line.bytes) 0)) (Header line.number)
+  head_with header line.number (drop 1 (tokens_of line.bytes)) lines
 
--- Where counts are limited, at most a million vertices and two million faces.
-abbrev pub within_limits : Bool → ℕ → ℕ → ℕ → Result (ℕ × ℕ) OffFault
-within_limits limited n v f =
-    if limited && nat_lt 1000000 v then Err (Limit n Vertices)
-    else (if limited && nat_lt 2000000 f then Err (Limit n Faces)
-    else Ok (v, f))
+-- the whole number that the token at a place is
+abbrev pub number_at : List (List ℕ) → ℕ → Option ℕ
+number_at tokens place = option_and_then whole (slice_get tokens place)
 
-abbrev pub both : Bool → ℕ → Option ℕ → Option ℕ → Result (ℕ × ℕ) OffFault
-both limited n (Some v) (Some f) = within_limits limited n v f
-both limited n (Some v) None = Err (Counts n)
-both limited n None f = Err (Counts n)
-
--- the numbers of vertices and of faces
+-- the numbers of vertices and of faces: where they are limited, at most a million vertices and two million faces
 unfoldable pub counts_of : Bool → ℕ → List (List ℕ) → Result (ℕ × ℕ) OffFault
-counts_of limited n [] = Err (Counts n)
-counts_of limited n (v ∷ []) = Err (Counts n)
-counts_of limited n (v ∷ f ∷ more) = both limited n (whole v) (whole f)
-
--- a vertex line in front of those that are read behind it
-abbrev pub with_line : List ℕ → Result (List (List ℕ) × List TextLine) OffFault →
-    Result (List (List ℕ) × List TextLine) OffFault
-with_line text (Ok rest) = Ok (text ∷ rest.0, rest.1)
-with_line text (Err e) = Err e
+counts_of limited n tokens = do
+  v ← ok_or (number_at tokens 0) (Counts n)
+  f ← ok_or (number_at tokens 1) (Counts n)
+  if limited && nat_lt 1000000 v then Err (Limit n Vertices)
+      else (if limited && nat_lt 2000000 f then Err (Limit n Faces) else Ok (v, f))
 
 -- so many vertex lines, each with three tokens at least, where so many face lines are to follow
 unfoldable pub vertices_at : ℕ → ℕ → List TextLine → Result (List (List ℕ) × List TextLine) OffFault
@@ -73,17 +56,14 @@ vertices_at zero f lines = Ok ([], lines)
 vertices_at (suc v) f [] = Err (Early (suc v + f))
 vertices_at (suc v) f (line ∷ lines) =
     if nat_le 3 (length (tokens_of line.bytes))
-    then with_line line.bytes (vertices_at v f lines)
+    then (vertices_at v f lines >>= λ rest. Ok (line.bytes ∷ rest.0, rest.1))
     else Err (VertexLine line.number)
 
-abbrev pub sized : ℕ → Option ℕ → List (List ℕ) → Result ℕ OffFault
-sized n None words = Err (FaceSize n)
-sized n (Some k) words = if nat_le 3 k && nat_le k (length words) then Ok k else Err (FaceSize n)
-
--- the size of a face, which is the first word of its line
+-- the size of a face, which is the first word of its line: at least three, with as many words behind it
 unfoldable pub size_of : ℕ → List (List ℕ) → Result ℕ OffFault
-size_of n [] = Err (FaceSize n)
-size_of n (word ∷ words) = sized n (whole word) words
+size_of n words = do
+  k ← ok_or (number_at words 0) (FaceSize n)
+  if nat_le 3 k && nat_le k (length (drop 1 words)) then Ok k else Err (FaceSize n)
 
 -- Where sides are limited, all faces so far have at most six million.
 abbrev pub few_sides : Bool → ℕ → ℕ → ℕ → Result ℕ OffFault
@@ -128,18 +108,14 @@ pub record FaceLines : Type 0 where
   pub colours : List (List ℕ)
   pub lines : List TextLine
 
--- a face in front of those that are read behind it
-abbrev pub with_face : Face → Result FaceLines OffFault → Result FaceLines OffFault
-with_face face (Ok rest) =
-    Ok (record { faces = face.corners ∷ rest.faces; colours = face.colour ∷ rest.colours; lines = rest.lines })
-with_face face (Err e) = Err e
-
 -- so many face lines, behind faces of so many sides
 unfoldable pub faces_at : Bool → ℕ → ℕ → ℕ → List TextLine → Result FaceLines OffFault
 faces_at limited v zero sides lines = Ok (record { faces = []; colours = []; lines = lines })
 faces_at limited v (suc f) sides [] = Err (Early (suc f))
-faces_at limited v (suc f) sides (line ∷ lines) =
-    face_of limited v sides line >>= λ face. with_face face (faces_at limited v f (sides + length face.corners) lines)
+faces_at limited v (suc f) sides (line ∷ lines) = do
+  face ← face_of limited v sides line
+  rest ← faces_at limited v f (sides + length face.corners) lines
+  Ok (record { faces = face.corners ∷ rest.faces; colours = face.colour ∷ rest.colours; lines = rest.lines })
 
 -- what a text has beside its mesh
 pub record OffParts : Type 0 where

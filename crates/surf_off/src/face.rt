@@ -1,7 +1,8 @@
 //! The line of a face, by the numbers of its corners.
 ghost use Rattle.std.specs.Prelude.{◌≡◌, ◌<◌, ◌≤◌, [], length, map};
 ghost use Rattle.surf_text.specs.Pages.{Puts};
-ghost use Rattle.surf_off.specs.Written.{spaced_text, colour_text, face_text};
+ghost use Rattle.surf_text.specs.Numbers.{numbers_text};
+ghost use Rattle.surf_off.specs.Written.{colour_text, face_text};
 
 use crate::numbered::Numbered;
 use surf_base::VertexId;
@@ -11,7 +12,7 @@ use surf_text::{Page, PageFault, Piece, Slip};
 const FEW_CORNERS: usize = 5;
 
 fn write_corners<N: Numbered>(page: &mut Page, corners: &[N]) -> Result<(), PageFault>
-    ensures puts { Puts page.old page.new (spaced_text (map N.number corners.now)) result }
+    ensures puts { Puts page.old page.new (numbers_text (map N.number corners.now)) result }
 {
     page.law_of_page();
     for c in corners {

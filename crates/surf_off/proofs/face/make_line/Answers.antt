@@ -1,6 +1,6 @@
 use Rattle.std.proofs.Common.{◌≡◌, ◌<◌, ◌+◌, ◌-◌, ℕ, List, ◌∷◌, ◌++◌, length, map, get_or, drop, sym, ◌∙◌, ap, length-append, codes, arith}
 use Rattle.surf_surfaces.proofs.Common.{decimal, length-map, get_or-map}
-use Rattle.surf_off.specs.Written.{spaced_text}
+use Rattle.surf_text.specs.Numbers.{numbers_text}
 use Rattle.surf_off.proofs.ShortFaces.{number_short, number_before, size_short, spaced_before}
 use Rattle.surf_off.proofs.face.make_line.Goals as goal
 
@@ -25,7 +25,7 @@ loop-k-preserved g c =
     let lt : i < length corners = omega (arith, inside, length-map c.args.corners.now number) in
     let is : n ≡ get_or corners i (number d) = c.number.ensures ∙ ap number c.index-corners-k.is ∙ sym (get_or-map number c.args.corners.now i d (number d) inside) in
     let made : c.put_byte-in-loop-k.new.self ≡ 32 ∷ (decimal n ++ slip) = c.put_byte-in-loop-k.ensures.before ∙ ap (λ (t : List ℕ). 32 ∷ t) {y = decimal n ++ slip} c.put_whole.ensures.before in
-    let so_far : slip ≡ spaced_text (drop (i + 1) corners) ++ codes "\n" = c.loop-k.invariant.text ∙ ap (λ (j : ℕ). spaced_text (drop j corners) ++ codes "\n") (sym next) in
+    let so_far : slip ≡ numbers_text (drop (i + 1) corners) ++ codes "\n" = c.loop-k.invariant.text ∙ ap (λ (j : ℕ). numbers_text (drop j corners) ++ codes "\n") (sym next) in
     record {
       text = made ∙ ap (λ (x : ℕ). 32 ∷ (decimal x ++ slip)) is ∙ spaced_before corners i (number d) slip (codes "\n") lt so_far;
       room = omega (arith, ap length made, length-append (decimal n) slip, number_short n (omega (arith, c.number.type_inv)), c.loop-k.invariant.room, next);

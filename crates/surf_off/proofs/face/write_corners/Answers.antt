@@ -1,7 +1,7 @@
 use Rattle.surf_surfaces.proofs.Common.{ℕ, List, ◌++◌, map, get_or, refl, ◌∙◌, ap, subst, codes, decimal, append-nil, err_from_is_err_and}
 use Rattle.surf_text.specs.Pages.{Puts}
 use Rattle.surf_text.proofs.Writing.{loop_more, loop_stop, loop_done}
-use Rattle.surf_off.specs.Written.{spaced_text}
+use Rattle.surf_text.specs.Numbers.{numbers_text}
 use Rattle.surf_off.proofs.face.write_corners.Goals as goal
 
 -- what is put for a corner, by the number of each corner, and for several of them
@@ -9,7 +9,7 @@ piece : {X : Type 0} → (X → ℕ) → X → List ℕ
 piece number x = codes " " ++ decimal (number x)
 
 text : {X : Type 0} → (X → ℕ) → List X → List ℕ
-text number xs = spaced_text (map number xs)
+text number xs = numbers_text (map number xs)
 
 pub returns-in_err-push_pieces : goal.returns-in_err-push_pieces
 unfolding piece text
