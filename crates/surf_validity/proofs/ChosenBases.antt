@@ -1,5 +1,5 @@
 -- The certificate of the chosen basis is valid.
-use Rattle.surf_surfaces.proofs.Common.{◌≡◌, ℕ, ◌<◌, List, [], ◌∷◌, length, map, get_or, All, sym, ap, ◌∙◌, subst, arith, AllByRecursion, length-map, recursion_from_All, All-from_recursion, greedy, numbers, is_nothing, Independent, SpannedUpToWeight, Decides-is_nothing, primal, Split, IsSplit, loop, signature_of-same, Mesh, edge_count, IsSurface, IsClosed, edge_length, walk_length, ArePositive, cells_of, class_of, loop_walk, walk_signature, Trees, Loop, AreChosen, walks, candidates, IsChosenBasis, weighed, signed, loop_chain, LeastSimpleBasis}
+use Rattle.surf_surfaces.proofs.Common.{◌≡◌, ℕ, ◌<◌, List, [], ◌∷◌, map, get_or, All, sym, ap, ◌∙◌, subst, arith, AllByRecursion, length-map, recursion_from_All, All-from_recursion, greedy, numbers, is_nothing, Independent, SpannedUpToWeight, Decides-is_nothing, primal, Split, IsSplit, loop, signature_of-same, Mesh, edge_count, IsSurface, IsClosed, edge_length, walk_length, ArePositive, cells_of, class_of, loop_walk, walk_signature, Trees, Loop, AreChosen, walks, candidates, IsChosenBasis, weighed, signed, loop_chain, LeastSimpleBasis}
 use Rattle.surf_z2.proofs.Least.{least_law}
 use Rattle.surf_surfaces.proofs.bases.CoveredLaws.{below_closed, below_sized, weighed_loops, loops_covered, candidates_rise}
 use Rattle.surf_surfaces.proofs.bases.BasisLaws.{basis_is_least}

@@ -1,7 +1,8 @@
 -- When a loop certificate is valid for a mesh and lengths. Each condition speaks of one row, edge or pair.
 use Rattle.std.specs.List.{list_any}
 use Rattle.std.specs.Prelude.{◌≡◌, ◌≢◌, ℕ, ◌+◌, ◌<◌, ◌≤◌, ◌==◌, Bool, true, false, not, ◌&&◌, if◌then◌else◌, List}
-use Rattle.std.specs.Prelude.{length, map, sum, All, Contains, slice_index, slice_index_or, Option, Some, None, unwrap_or}
+use Rattle.std.specs.Prelude.{length, map, sum, All, Contains, slice_index, slice_index_or, Option, Some, None}
+use Rattle.std.specs.Prelude.{unwrap_or}
 use Rattle.std.specs.Option.{option_map_or}
 use Rattle.surf_z2.specs.Parity.{any_below}
 use Rattle.surf_graphs.specs.Growth.{between}
