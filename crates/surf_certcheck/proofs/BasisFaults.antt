@@ -18,7 +18,6 @@ use Rattle.surf_treecheck.specs.declared.fault.CertPart.TheVariants.{Vertices, F
 use Rattle.surf_treecheck.specs.declared.fault.CertFault.{CertFault}
 use Rattle.surf_treecheck.specs.declared.fault.CertFault.TheVariants.{Shape, Parent, Distance, Slack, Dual, Split, Heavier, NotClosed, Dependent, Uncovered, Memory}
 use Rattle.surf_certcheck.proofs.Bases.{AreCovered}
-use Rattle.surf_certcheck.proofs.Validity.{has_trees}
 
 -- all conditions together
 pub basis_valid : (mesh : Mesh) (lengths : List ℕ) (cert : BasisCert) → AreTreesDivided mesh lengths cert →
@@ -38,9 +37,9 @@ basis_valid mesh lengths cert a closed independent covered = record {
 module _ (mesh : Mesh) (lengths : List ℕ) (cert : BasisCert) (surface : IsSurface mesh)
     (valid : IsValidBasis mesh lengths cert) where
   no_shape_fault : (part : CertPart) → IsBasisShapeFault mesh cert part → ⊥
-  no_shape_fault Vertices is = is (has_trees mesh cert valid.shape)
-  no_shape_fault Faces is = is.1 (record { depths = valid.shape.depths; sides = valid.shape.sides })
-  no_shape_fault Loops is = is.2 (record { left = valid.shape.loops; cycles = valid.shape.cycles })
+  no_shape_fault Vertices is = is valid.shape.vertices
+  no_shape_fault Faces is = is.1 valid.shape.faces
+  no_shape_fault Loops is = is.2 valid.shape.loops
   no_shape_fault Base is = is.3 valid.shape.bases
 
   no_bad_pair : (p : ℕ × ℕ) → IsBadPair mesh (tree_at cert 0) cert.dual cert.left p → ⊥
@@ -63,7 +62,7 @@ module _ (mesh : Mesh) (lengths : List ℕ) (cert : BasisCert) (surface : IsSurf
       first.number.fails ((valid.trees base first.base.below).slack e first.number.below)
   no_basis_fault (Dual face) ne is = is.2.fails (valid.dual face is.2.below)
   no_basis_fault (Split u v) ne is = no_bad_pair (u, v) is.3.bad
-  no_basis_fault (Heavier left cotree) ne is = is
+  no_basis_fault (Heavier left cotree) ne is = is.1
   no_basis_fault (NotClosed place) ne is = is.1.fails (valid.closed place [] is.1.below)
   no_basis_fault (Dependent place) ne is = valid.independent place is.2.below is.2.depends
   no_basis_fault (Uncovered base u v) ne is =

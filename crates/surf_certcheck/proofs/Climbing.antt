@@ -1,12 +1,12 @@
 -- The coordinates of ways up a tree, and of loops through it.
-use Rattle.surf_surfaces.proofs.Common.{◌≡◌, ◌≢◌, ℕ, ◌<◌, Some, None, List, length, get_or, IsPermutation, Contains, bit_xor, slice_index, sym, ap, ◌∙◌, subst, arith, range_with_len, length-range_with_len, get_or-range_with_len, All-permutation, Contains-permutation, Split, loop_walk, Mesh, edge_signature, walk_signature, edge_count, ends, IsSurface}
+use Rattle.surf_surfaces.proofs.Common.{unwrap_or, ◌≡◌, ◌≢◌, ℕ, ◌<◌, Some, None, List, length, get_or, IsPermutation, Contains, bit_xor, slice_index, sym, ap, ◌∙◌, subst, arith, range_with_len, length-range_with_len, get_or-range_with_len, All-permutation, Contains-permutation, Split, loop_walk, Mesh, edge_signature, walk_signature, edge_count, ends, IsSurface}
 use Rattle.std.specs.Int.Bits.{xor_assoc, xor_comm, xor_zero_l}
 use Rattle.surf_surfaces.proofs.classes.ClassLaws.{runs_loop}
 use Rattle.surf_surfaces.proofs.classes.SignatureLaws.{signatures_are_classes}
 use Rattle.surf_signatures.specs.Ways.{way_class}
 use Rattle.surf_signatures.proofs.WayLaws.{way_none, way_more, loop_class}
 use Rattle.surf_validity.specs.Rows.{TreeRows}
-use Rattle.surf_validity.specs.Valid.{certified_tree, distance_at, parent_at, or_zero, IsParent}
+use Rattle.surf_validity.specs.Valid.{certified_tree, distance_at, parent_at, IsParent}
 use Rattle.surf_certcheck.specs.Frames.{AreTaken}
 use Rattle.surf_certcheck.specs.Climbs.{IsClimbed}
 
@@ -36,7 +36,7 @@ pub step_up : (mesh : Mesh) (rows : TreeRows) (at parent : ℕ) → IsClimbed me
     parent_at rows at ≡ Some parent → IsStep mesh rows at parent
 step_up mesh rows at parent climbed l is =
     let ne : at ≢ rows.base = (subst (IsParent mesh rows.base at) is (climbed.valid.parents at l)).0 in
-    let same : (certified_tree mesh rows).parent at ≡ parent = ap or_zero is in
+    let same : (certified_tree mesh rows).parent at ≡ parent = ap (λ o. unwrap_or o 0) is in
     record {
       apart = ne;
       within = subst (λ p. p < mesh.vertices) same (climbed.tree.parent_in at l ne);

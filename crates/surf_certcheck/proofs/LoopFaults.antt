@@ -27,8 +27,8 @@ bad_pair_fails mesh rows dual left p (inr (e, l, same, out)) divided = out (divi
 
 module _ (mesh : Mesh) (lengths : List ℕ) (cert : LoopCert) where
   shape_fails : (part : CertPart) → IsShapeFault mesh cert part → HasShape mesh cert → ⊥
-  shape_fails Vertices is shape = is (record { distances = shape.distances; parents = shape.parents })
-  shape_fails Faces is shape = is.1 (record { depths = shape.depths; sides = shape.sides })
+  shape_fails Vertices is shape = is shape.vertices
+  shape_fails Faces is shape = is.1 shape.faces
   shape_fails Loops is shape = is.2 shape.loops
   shape_fails Base is shape = is.3 shape.base
 
@@ -53,9 +53,9 @@ module _ (mesh : Mesh) (lengths : List ℕ) (cert : LoopCert) where
   passed (Dual face) ne is = ((((tt, is.0), is.1.parents), is.1.distances), is.1.slack)
   passed (Split u v) ne is = (((((tt, is.0), is.1.parents), is.1.distances), is.1.slack), is.2)
   passed (Heavier left cotree) ne is = ((((((tt, is.0), is.1.parents), is.1.distances), is.1.slack), is.2), is.3)
-  passed (NotClosed place) ne is = absurd is
-  passed (Dependent place) ne is = absurd is
-  passed (Uncovered base u v) ne is = absurd is
+  passed (NotClosed place) ne is = absurd is.1
+  passed (Dependent place) ne is = absurd is.1
+  passed (Uncovered base u v) ne is = absurd is.1
   passed Memory ne is = absurd (ne refl)
 
   fails : (fault : CertFault) → fault ≢ Memory → IsLoopFault mesh lengths cert fault → Holds (kind fault) → ⊥
@@ -67,9 +67,9 @@ module _ (mesh : Mesh) (lengths : List ℕ) (cert : LoopCert) where
   fails (Split u v) ne is holds = bad_pair_fails mesh cert.tree cert.dual cert.left (u, v) is.3.bad holds
   fails (Heavier left cotree) ne is holds =
       let (l, c, same, other, are) = is.4 in are.left.fails (holds l are.left.below)
-  fails (NotClosed place) ne is holds = is
-  fails (Dependent place) ne is holds = is
-  fails (Uncovered base u v) ne is holds = is
+  fails (NotClosed place) ne is holds = is.1
+  fails (Dependent place) ne is holds = is.1
+  fails (Uncovered base u v) ne is holds = is.1
   fails Memory ne is holds = ne refl
 
   pub loop_faults_are_first : AreFirst Holds (IsLoopFault mesh lengths cert)

@@ -1,11 +1,11 @@
 -- The fault of a certificate of a basis is its first one, so there is one, and a valid certificate has none.
 use Rattle.surf_surfaces.proofs.Common.{◌≡◌, ◌≢◌, ℕ, zero, suc, List, [], length, refl, sym, ap, subst, ◌∙◌, Mesh, face_count, edge_count, ends}
 use Rattle.surf_validity.specs.Rows.{BasisCert}
-use Rattle.surf_validity.specs.Valid.{IsDualValid, IsDivided}
-use Rattle.surf_validity.specs.Bases.{tree_at, HasBasisShape, IsCovered, IsValidBasis}
+use Rattle.surf_validity.specs.Valid.{IsDualValid, IsDivided, HasDualRows}
+use Rattle.surf_validity.specs.Bases.{tree_at, HasBasisShape, IsCovered, IsValidBasis, HasTrees, HasCounts}
 use Rattle.surf_treecheck.specs.First.{HoldsBelow, FailsFirst}
-use Rattle.surf_treecheck.specs.Rows.{HasDualRows, HasDual}
-use Rattle.surf_treecheck.specs.Shapes.{HasTrees, HasCounts, HasBase, IsBasisShapeFault}
+use Rattle.surf_treecheck.specs.Rows.{HasDual}
+use Rattle.surf_treecheck.specs.Shapes.{HasBase, IsBasisShapeFault, FirstPart}
 use Rattle.surf_treecheck.specs.TreeFaults.{IsFirstAt, HasParentAt, HasDistanceAt, IsNoShortCutAt, HasParents, HasDistances}
 use Rattle.surf_certcheck.specs.BasisFaults.{IsCycleClosed, IsIndependentAt, DependsFirst, AreTreesDivided, IsBasisFault}
 use Rattle.surf_treecheck.specs.declared.fault.CertPart.{CertPart}
@@ -14,7 +14,7 @@ use Rattle.surf_treecheck.specs.declared.fault.CertFault.{CertFault}
 use Rattle.surf_treecheck.specs.declared.fault.CertFault.TheVariants.{Shape, Parent, Distance, Slack, Dual, Split, Heavier, NotClosed, Dependent, Uncovered, Memory}
 use Rattle.surf_treecheck.proofs.ShortCuts.{HasNoShortCut}
 use Rattle.surf_certcheck.proofs.Bases.{AreCovered}
-use Rattle.surf_treecheck.proofs.FirstFault.{first_same, FirstPart, first_part_same, kind, Passed, AreSingle, one_fault}
+use Rattle.surf_treecheck.proofs.FirstFault.{first_same, first_part_same, kind, Passed, AreSingle, one_fault}
 use Rattle.surf_certcheck.proofs.LoopFaults.{bad_pair_fails}
 use Rattle.surf_certcheck.proofs.OneFault.{bad_pair_same}
 
@@ -32,23 +32,10 @@ first_at_fails : (bases n : ℕ) (P : ℕ → ℕ → Type 0) (x k : ℕ) → Is
 first_at_fails bases n P x k is holds = is.number.fails (holds x is.base.below k is.number.below)
 
 module _ (mesh : Mesh) (lengths : List ℕ) (cert : BasisCert) where
-  -- ---- the parts
-
-  part_is : (part : CertPart) → IsBasisShapeFault mesh cert part →
-      FirstPart (HasTrees mesh cert) (HasDualRows mesh cert.dual) (HasCounts mesh cert)
-      (HoldsBelow mesh.vertices (HasBase cert)) part
-  part_is Vertices is = is
-  part_is Faces is = is
-  part_is Loops is = is
-  part_is Base is = is
-
   shape_fails : (part : CertPart) → IsBasisShapeFault mesh cert part → HasBasisShape mesh cert → ⊥
-  shape_fails Vertices is shape = is (record {
-    trees = shape.trees;
-    rows = λ x l. record { distances = shape.distances x l; parents = shape.parents x l };
-  })
-  shape_fails Faces is shape = is.1 (record { depths = shape.depths; sides = shape.sides })
-  shape_fails Loops is shape = is.2 (record { left = shape.loops; cycles = shape.cycles })
+  shape_fails Vertices is shape = is shape.vertices
+  shape_fails Faces is shape = is.1 shape.faces
+  shape_fails Loops is shape = is.2 shape.loops
   shape_fails Base is shape = is.3 shape.bases
 
   -- ---- the kinds
@@ -97,7 +84,7 @@ module _ (mesh : Mesh) (lengths : List ℕ) (cert : BasisCert) where
       ((((tt, is.0), λ x l. (is.1 x l).parents), λ x l. (is.1 x l).distances), λ x l. (is.1 x l).slack)
   passed (Split u v) ne is =
       (((((tt, is.0), λ x l. (is.1 x l).parents), λ x l. (is.1 x l).distances), λ x l. (is.1 x l).slack), is.2)
-  passed (Heavier left cotree) ne is = absurd is
+  passed (Heavier left cotree) ne is = absurd is.1
   passed (NotClosed place) ne is = divided_passed is.0
   passed (Dependent place) ne is = (divided_passed is.0, is.1)
   passed (Uncovered base u v) ne is = ((divided_passed is.0, is.1), is.2)
@@ -114,7 +101,7 @@ module _ (mesh : Mesh) (lengths : List ℕ) (cert : BasisCert) where
       first_at_fails mesh.vertices (edge_count mesh) (IsNoShortCutAt mesh lengths cert) base e first holds
   fails (Dual face) ne is holds = is.2.fails (holds face is.2.below)
   fails (Split u v) ne is holds = bad_pair_fails mesh (tree_at cert 0) cert.dual cert.left (u, v) is.3.bad holds
-  fails (Heavier left cotree) ne is holds = is
+  fails (Heavier left cotree) ne is holds = is.1
   fails (NotClosed place) ne is holds = is.1.fails (holds place is.1.below)
   fails (Dependent place) ne is holds = holds place is.2.below is.2.depends
   fails (Uncovered base u v) ne is holds =
@@ -145,14 +132,14 @@ module _ (mesh : Mesh) (lengths : List ℕ) (cert : BasisCert) where
   single : AreSingle (IsBasisFault mesh lengths cert)
   single = record {
     shapes = λ p q a b. ap Shape (first_part_same (HasTrees mesh cert) (HasDualRows mesh cert.dual) (HasCounts mesh cert)
-        (HoldsBelow mesh.vertices (HasBase cert)) p q (part_is p a) (part_is q b));
+        (HoldsBelow mesh.vertices (HasBase cert)) p q a b);
     parents = λ x v y w a b. vertex_same x v y w (HasParentAt mesh cert) Parent a.1 b.1;
     distances = λ x v y w a b. vertex_same x v y w (HasDistanceAt mesh lengths cert) Distance a.1.1 b.1.1;
     slacks = λ x u v y w z a b. edge_same x u v y w z (IsNoShortCutAt mesh lengths cert) Slack a.1.2 b.1.2;
     duals = λ f g a b. ap Dual (first_same (face_count mesh) (HasDual mesh cert.dual) f g a.2 b.2);
     splits = λ u v w z a b. ap (λ (p : ℕ × ℕ). Split p.0 p.1)
         (bad_pair_same mesh (tree_at cert 0) cert.dual cert.left (u, v) (w, z) a.3 b.3);
-    heavier = λ l c m d a b. absurd a;
+    heavier = λ l c m d a b. absurd a.1;
     not_closed = λ j k a b. ap NotClosed (first_same (length cert.cycles) (IsCycleClosed mesh cert) j k a.1 b.1);
     dependent = λ j k a b. ap Dependent (first_same (length cert.cycles) (IsIndependentAt mesh cert) j k
         (depends_fails j a.2) (depends_fails k b.2));

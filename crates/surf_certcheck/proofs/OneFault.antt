@@ -2,17 +2,17 @@
 use Rattle.surf_surfaces.proofs.Common.{◌≡◌, ◌≢◌, ℕ, ◌<◌, List, length, sym, ap, subst, inl, inr, ◌∙◌, true≢false, cases_Bool, Mesh, pair_eq, edge_count, ends, IsLoopCount}
 use Rattle.surf_surfaces.proofs.meshes.PairLaws.{pair_eq-true, pair_lt-total}
 use Rattle.surf_validity.specs.Rows.{TreeRows, DualRows, LoopCert}
-use Rattle.surf_validity.specs.Valid.{IsNoShortCut, HasNoShorter, IsNotHeavier}
+use Rattle.surf_validity.specs.Valid.{IsNoShortCut, HasNoShorter, IsNotHeavier, HasTreeRows, HasDualRows}
 use Rattle.surf_treecheck.specs.First.{FailsFirst}
-use Rattle.surf_treecheck.specs.Rows.{HasTreeRows, HasDualRows, HasParent, HasDistance, HasDual}
+use Rattle.surf_treecheck.specs.Rows.{HasParent, HasDistance, HasDual}
 use Rattle.surf_treecheck.specs.Split.{IsLeastBadPair}
-use Rattle.surf_treecheck.specs.Shapes.{IsShapeFault}
+use Rattle.surf_treecheck.specs.Shapes.{IsShapeFault, FirstPart}
 use Rattle.surf_certcheck.specs.LoopFaults.{IsHeavierFault, IsLoopFault}
 use Rattle.surf_treecheck.specs.declared.fault.CertPart.{CertPart}
 use Rattle.surf_treecheck.specs.declared.fault.CertPart.TheVariants.{Vertices, Faces, Loops, Base}
 use Rattle.surf_treecheck.specs.declared.fault.CertFault.{CertFault}
 use Rattle.surf_treecheck.specs.declared.fault.CertFault.TheVariants.{Shape, Parent, Distance, Slack, Dual, Split, Heavier, Memory}
-use Rattle.surf_treecheck.proofs.FirstFault.{first_same, FirstPart, first_part_same, AreSingle, one_fault}
+use Rattle.surf_treecheck.proofs.FirstFault.{first_same, first_part_same, AreSingle, one_fault}
 use Rattle.surf_certcheck.proofs.LoopFaults.{Holds, loop_faults_are_first}
 
 -- the least such pair is one
@@ -29,14 +29,6 @@ pub ends_same : (mesh : Mesh) (p q : ℕ × ℕ) (e h : ℕ) (P : ℕ → Type 0
 ends_same mesh p q e h P a b x y = sym a ∙ ap (ends mesh) (first_same (edge_count mesh) P e h x y) ∙ b
 
 module _ (mesh : Mesh) (lengths : List ℕ) (cert : LoopCert) where
-  part_is : (part : CertPart) → IsShapeFault mesh cert part →
-      FirstPart (HasTreeRows mesh cert.tree) (HasDualRows mesh cert.dual) (IsLoopCount mesh (length cert.left))
-      (cert.tree.base < mesh.vertices) part
-  part_is Vertices is = is
-  part_is Faces is = is
-  part_is Loops is = is
-  part_is Base is = is
-
   tree_same : (base other v w : ℕ) (P : ℕ → Type 0) (fault : ℕ → ℕ → CertFault) → base ≡ cert.tree.base →
       other ≡ cert.tree.base → FailsFirst mesh.vertices P v → FailsFirst mesh.vertices P w → fault base v ≡ fault other w
   tree_same base other v w P fault a b x y =
@@ -45,7 +37,7 @@ module _ (mesh : Mesh) (lengths : List ℕ) (cert : LoopCert) where
   single : AreSingle (IsLoopFault mesh lengths cert)
   single = record {
     shapes = λ p q a b. ap Shape (first_part_same (HasTreeRows mesh cert.tree) (HasDualRows mesh cert.dual)
-        (IsLoopCount mesh (length cert.left)) (cert.tree.base < mesh.vertices) p q (part_is p a) (part_is q b));
+        (IsLoopCount mesh (length cert.left)) (cert.tree.base < mesh.vertices) p q a b);
     parents = λ x v y w a b. tree_same x y v w (HasParent mesh cert.tree) Parent a.1.0 b.1.0 a.1.1 b.1.1;
     distances = λ x v y w a b. tree_same x y v w (HasDistance mesh lengths cert.tree) Distance a.1.0 b.1.0 a.1.2 b.1.2;
     slacks = λ x u v y w z a b.
@@ -57,9 +49,9 @@ module _ (mesh : Mesh) (lengths : List ℕ) (cert : LoopCert) where
     splits = λ u v w z a b. ap (λ (p : ℕ × ℕ). Split p.0 p.1)
         (bad_pair_same mesh cert.tree cert.dual cert.left (u, v) (w, z) a.3 b.3);
     heavier = λ l c m d a b. heavier_same l c m d a.4 b.4;
-    not_closed = λ j k a b. absurd a;
-    dependent = λ j k a b. absurd a;
-    uncovered = λ x u v y w z a b. absurd a;
+    not_closed = λ j k a b. absurd a.1;
+    dependent = λ j k a b. absurd a.1;
+    uncovered = λ x u v y w z a b. absurd a.1;
   }
     where
       heavier_same : (l c m d : ℕ × ℕ) → IsHeavierFault mesh lengths cert (Heavier l c) →

@@ -3,13 +3,13 @@ use Rattle.surf_surfaces.proofs.Common.{◌≡◌, ℕ, ◌<◌, ◌+◌, Bool, 
 use Rattle.surf_surfaces.proofs.classes.ClassLaws.{some_vertex}
 use Rattle.surf_signatures.proofs.Passing.{passing_same}
 use Rattle.surf_signatures.specs.Tables.{face_tree, HangsBy}
-use Rattle.surf_validity.specs.Bases.{tree_at, split_in, HasBasisShape}
+use Rattle.surf_validity.specs.Bases.{tree_at, split_in, HasBasisShape, HasTrees}
 use Rattle.surf_validity.specs.Rows.{BasisCert}
 use Rattle.surf_validity.specs.Valid.{certified_tree, dual_tree, is_listed, just_one}
 use Rattle.surf_validity.proofs.DualLaws.{dual_rows_are_tree, dual_rows_in_tree}
 use Rattle.surf_validity.proofs.SplitLaws.{is_split}
 use Rattle.surf_validity.proofs.TreeLaws.{rows_are_tree, rows_are_shortest, rows_in_tree}
-use Rattle.surf_treecheck.specs.Shapes.{HasTrees, HasBase}
+use Rattle.surf_treecheck.specs.Shapes.{HasBase}
 use Rattle.surf_treecheck.specs.TreeFaults.{AreTreesValid}
 use Rattle.surf_certcheck.specs.BasisFaults.{AreTreesDivided}
 use Rattle.surf_certcheck.specs.Climbs.{IsClimbed}
@@ -50,7 +50,7 @@ has_split mesh lengths cert surface positive a =
       dual_rows_in_tree mesh cert.dual surface a.dual e l,
     ) (a.divided.divided e l) in
     record {
-      faces = record { depths = a.shape.depths; sides = a.shape.sides };
+      faces = a.shape.faces;
       dual = a.dual;
       split = is_split mesh (certified_tree mesh rows) (dual_tree mesh cert.dual) cert.left (record { one_of = one_of }) tree cotree;
       listed = λ e l.
@@ -118,16 +118,10 @@ signed_count mesh d sets is = ap length is ∙ length-map-range_with_len (edge_s
 
 -- ---- sizes
 
-pub has_trees : (mesh : Mesh) (cert : BasisCert) → HasBasisShape mesh cert → HasTrees mesh cert
-has_trees mesh cert shape = record {
-  trees = shape.trees;
-  rows = λ x l. record { distances = shape.distances x l; parents = shape.parents x l };
-}
-
 -- there are as many cycles as left edges
 pub cycles_size : (mesh : Mesh) (cert : BasisCert) → HasBasisShape mesh cert → HasSplit mesh cert →
     length cert.cycles ≡ length (split_in mesh cert).left
 cycles_size mesh cert shape has =
     let left = left_size mesh cert has in
-    let cycles = shape.cycles in
+    let cycles = shape.loops.cycles in
     omega (arith, left, cycles)

@@ -59,22 +59,16 @@ pub record AreTreesDivided (mesh : Mesh) (lengths : List ℕ) (cert : BasisCert)
   pub dual : IsDualValid mesh cert.dual
   pub divided : IsDivided mesh (tree_at cert 0) cert.dual cert.left
 
--- What each fault says: its condition with the least witness, and that none of the conditions before it fails.
+-- What each fault says: its condition with the least witness, and that none of the conditions before it fails. Of the
+-- faults that aren't listed here, those of the trees are possible.
 abbrev pub IsBasisFault : Mesh → List ℕ → BasisCert → CertFault → Type 0
 IsBasisFault mesh lengths cert (Shape part) = IsBasisShapeFault mesh cert part
-IsBasisFault mesh lengths cert (Parent base v) =
-    HasBasisShape mesh cert × IsTreesFault mesh lengths cert (Parent base v)
-IsBasisFault mesh lengths cert (Distance base v) =
-    HasBasisShape mesh cert × IsTreesFault mesh lengths cert (Distance base v)
-IsBasisFault mesh lengths cert (Slack base u v) =
-    HasBasisShape mesh cert × IsTreesFault mesh lengths cert (Slack base u v)
 IsBasisFault mesh lengths cert (Dual face) =
     HasBasisShape mesh cert × AreTreesValid mesh lengths cert
     × FailsFirst (face_count mesh) (HasDual mesh cert.dual) face
 IsBasisFault mesh lengths cert (Split u v) =
     HasBasisShape mesh cert × AreTreesValid mesh lengths cert × IsDualValid mesh cert.dual
     × IsLeastBadPair mesh (tree_at cert 0) cert.dual cert.left (u, v)
-IsBasisFault mesh lengths cert (Heavier left cotree) = ⊥
 IsBasisFault mesh lengths cert (NotClosed place) =
     AreTreesDivided mesh lengths cert × FailsFirst (length cert.cycles) (IsCycleClosed mesh cert) place
 IsBasisFault mesh lengths cert (Dependent place) =
@@ -84,3 +78,4 @@ IsBasisFault mesh lengths cert (Uncovered base u v) =
     AreTreesDivided mesh lengths cert × HoldsBelow (length cert.cycles) (IsCycleClosed mesh cert)
     × HoldsBelow (length cert.cycles) (IsIndependentAt mesh cert) × IsUncovered mesh lengths cert base (u, v)
 IsBasisFault mesh lengths cert Memory = Unit {0}
+IsBasisFault mesh lengths cert fault = HasBasisShape mesh cert × IsTreesFault mesh lengths cert fault

@@ -7,8 +7,7 @@ use Rattle.surf_surfaces.specs.Mesh.{Mesh}
 use Rattle.surf_surfaces.specs.Walk.{edge_length}
 use Rattle.surf_signatures.specs.Ways.{way_class}
 use Rattle.surf_validity.specs.Rows.{TreeRows}
-use Rattle.surf_validity.specs.Valid.{certified_tree, IsTreeValid}
-use Rattle.surf_treecheck.specs.Rows.{HasTreeRows}
+use Rattle.surf_validity.specs.Valid.{certified_tree, IsTreeValid, HasTreeRows}
 use Rattle.surf_certcheck.specs.Frames.{AreTaken}
 
 -- rows that are a tree of shortest walks by some lengths

@@ -13,10 +13,9 @@ use Rattle.surf_surfaces.specs.Surface.{edge_count}
 use Rattle.surf_signatures.specs.Tables.{Signed}
 use Rattle.surf_validity.specs.Bases.{tree_at, split_in, weighed_cycle}
 use Rattle.surf_validity.specs.Rows.{TreeRows, BasisCert}
-use Rattle.surf_validity.specs.Valid.{certified_tree, loop_size, is_listed, IsDualValid}
+use Rattle.surf_validity.specs.Valid.{certified_tree, loop_size, is_listed, IsDualValid, HasDualRows}
 use Rattle.surf_surfaces.specs.Cotree.{is_left}
 use Rattle.surf_validity.specs.Valid.{dual_tree}
-use Rattle.surf_treecheck.specs.Rows.{HasDualRows}
 
 -- the signatures of all edges
 abbrev pub edge_signatures : Mesh → Split → List ℕ

@@ -38,15 +38,10 @@ IsHeavierFault mesh lengths cert (Heavier left cotree) =
     (l : ℕ) × (c : ℕ) × (ends mesh l ≡ left) × (ends mesh c ≡ cotree) × AreHeavier mesh lengths cert l c
 IsHeavierFault mesh lengths cert fault = ⊥
 
--- What each fault says: its condition with the least witness, and that none of the conditions before it fails.
+-- What each fault says: its condition with the least witness, and that none of the conditions before it fails. Of the
+-- faults that aren't listed here, those of the rows of vertices are possible.
 abbrev pub IsLoopFault : Mesh → List ℕ → LoopCert → CertFault → Type 0
 IsLoopFault mesh lengths cert (Shape part) = IsShapeFault mesh cert part
-IsLoopFault mesh lengths cert (Parent base v) =
-    HasShape mesh cert × IsTreeFault mesh lengths cert.tree (Parent base v)
-IsLoopFault mesh lengths cert (Distance base v) =
-    HasShape mesh cert × IsTreeFault mesh lengths cert.tree (Distance base v)
-IsLoopFault mesh lengths cert (Slack base u v) =
-    HasShape mesh cert × IsTreeFault mesh lengths cert.tree (Slack base u v)
 IsLoopFault mesh lengths cert (Dual face) =
     HasShape mesh cert × IsTreeValid mesh lengths cert.tree × FailsFirst (face_count mesh) (HasDual mesh cert.dual) face
 IsLoopFault mesh lengths cert (Split u v) =
@@ -56,7 +51,5 @@ IsLoopFault mesh lengths cert (Heavier left cotree) =
     HasShape mesh cert × IsTreeValid mesh lengths cert.tree × IsDualValid mesh cert.dual
     × IsDivided mesh cert.tree cert.dual cert.left
     × IsHeavierFault mesh lengths cert (Heavier left cotree)
-IsLoopFault mesh lengths cert (NotClosed place) = ⊥
-IsLoopFault mesh lengths cert (Dependent place) = ⊥
-IsLoopFault mesh lengths cert (Uncovered base u v) = ⊥
 IsLoopFault mesh lengths cert Memory = Unit {0}
+IsLoopFault mesh lengths cert fault = HasShape mesh cert × IsTreeFault mesh lengths cert.tree fault

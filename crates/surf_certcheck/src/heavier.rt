@@ -2,10 +2,10 @@
 ghost use Rattle.std.specs.Prelude.{◌≡◌, ◌≢◌, ◌<◌, ◌≤◌, ◌^◌, ◌⊎◌, ℕ, MatchOption, length};
 ghost use Rattle.surf_graphs.specs.Growth.{between};
 ghost use Rattle.surf_surfaces.specs.Surface.{edge_count, face_count};
-ghost use Rattle.surf_validity.specs.Valid.{depth_at, dual_tree, loop_size};
+ghost use Rattle.surf_validity.specs.Valid.{depth_at, dual_tree, loop_size, HasTreeRows, HasDualRows};
 ghost use Rattle.surf_validity.specs.Valid.{IsNotHeavier, HasNoShorter};
 ghost use Rattle.surf_treecheck.specs.First.{HoldsBelow, FailsFirst, FindsFirst, Tells};
-ghost use Rattle.surf_treecheck.specs.Rows.{HasTreeRows, HasDualRows, HasDual};
+ghost use Rattle.surf_treecheck.specs.Rows.{HasDual};
 ghost use Rattle.surf_treecheck.specs.Paths.{AreAllLinks};
 ghost use Rattle.surf_certcheck.specs.LoopFaults.{AreHeavier};
 ghost use Rattle.surf_certcheck.specs.Least.{IsLeastIn, IsLeastWith, least_with};

@@ -3,7 +3,7 @@ use Rattle.surf_surfaces.proofs.Common.{◌≡◌, ◌≢◌, ℕ, ◌<◌, ◌�
 use Rattle.surf_surfaces.proofs.meshes.PairLaws.{Rising, pair_eq-true, pair_eq-self, pair_lt-irreflexive, pair_lt-trans, pair_lt-total}
 use Rattle.surf_surfaces.proofs.meshes.EdgeLaws.{rising_from_AllPairs, among-contains, contains_from_among}
 use Rattle.surf_classes.specs.Evidence.{is_listed, has_odd_sides, is_odd_in, IsNullEvidence, IsOddEvidence, null_faces, odd_pairs}
-use Rattle.surf_classes.specs.Faults.{Fault, no_face, no_boundary, no_pair, odd_face, even_number, IsNoFace, IsNoBoundary, IsNoPair, IsNullFault, IsOddFault}
+use Rattle.surf_classes.specs.Faults.{Fault, no_face, no_boundary, no_pair, odd_face, even_number, IsNoFace, IsNoBoundary, IsNoPair, IsFirstFault}
 use Rattle.surf_classes.specs.EvidenceLaws.{FaultsAreTold}
 use Rattle.surf_classes.proofs.Listed.{Climbing, climbing_from, listed_above}
 
@@ -59,7 +59,7 @@ cases_same false true = inr false≢true
 cases_same false false = inl refl
 
 null_some : (mesh : Mesh) (chain : Chain) (faces : List ℕ) → AllPairs (λ f g. f < g) faces →
-    IsNullEvidence mesh chain faces ⊎ ((fault : Fault) × IsNullFault mesh chain faces fault)
+    IsNullEvidence mesh chain faces ⊎ ((fault : Fault) × IsFirstFault mesh chain (null_faces faces) fault)
 null_some mesh chain faces rises =
     elim (faces_cases mesh faces (climbing_from faces rises)) [
       | inr (f, bad) ↦ inr (no_face f, bad)
@@ -96,7 +96,7 @@ null_some mesh chain faces rises =
     ]
 
 null_not_both : (mesh : Mesh) (chain : Chain) (faces : List ℕ) → IsNullEvidence mesh chain faces → (fault : Fault) →
-    IsNullFault mesh chain faces fault → ⊥
+    IsFirstFault mesh chain (null_faces faces) fault → ⊥
 null_not_both mesh chain faces evidence (no_face f) h =
     let inside = all_faces mesh faces evidence.are_faces f h.listed in
     let outside = h.outside in
@@ -113,8 +113,8 @@ face_or_boundary mesh chain faces f u v h k =
     let outside = h.outside in
     omega (arith, inside, outside)
 
-null_one : (mesh : Mesh) (chain : Chain) (faces : List ℕ) (a b : Fault) → IsNullFault mesh chain faces a →
-    IsNullFault mesh chain faces b → a ≡ b
+null_one : (mesh : Mesh) (chain : Chain) (faces : List ℕ) (a b : Fault) → IsFirstFault mesh chain (null_faces faces) a →
+    IsFirstFault mesh chain (null_faces faces) b → a ≡ b
 null_one mesh chain faces (no_face f) (no_face g) h k = elim (cases_order f g) [
   | inl same ↦ ap no_face same
   | inr apart ↦
@@ -201,7 +201,7 @@ pairs_cases mesh (p ∷ ps) h = elim (cases_Bool (among p (edges mesh))) [
 ]
 
 odd_some : (mesh : Mesh) (chain : Chain) (pairs : List (ℕ × ℕ)) → AllPairs (λ p q. pair_lt p q ≡ true) pairs →
-    IsOddEvidence mesh chain pairs ⊎ ((fault : Fault) × IsOddFault mesh chain pairs fault)
+    IsOddEvidence mesh chain pairs ⊎ ((fault : Fault) × IsFirstFault mesh chain (odd_pairs pairs) fault)
 odd_some mesh chain pairs rises =
     elim (pairs_cases mesh pairs (rising_from_AllPairs pairs rises)) [
       | inr (p, bad) ↦ inr (no_pair p.0 p.1, bad)
@@ -250,7 +250,7 @@ odd_some mesh chain pairs rises =
     ]
 
 odd_not_both : (mesh : Mesh) (chain : Chain) (pairs : List (ℕ × ℕ)) → IsOddEvidence mesh chain pairs →
-    (fault : Fault) → IsOddFault mesh chain pairs fault → ⊥
+    (fault : Fault) → IsFirstFault mesh chain (odd_pairs pairs) fault → ⊥
 odd_not_both mesh chain pairs evidence (no_face f) h = h
 odd_not_both mesh chain pairs evidence (no_boundary u v) h = h
 odd_not_both mesh chain pairs evidence (no_pair u v) h =
@@ -263,8 +263,8 @@ pair_or_edges : (mesh : Mesh) (pairs : List (ℕ × ℕ)) (u v : ℕ) → IsNoPa
     All (Contains (edges mesh)) pairs → ⊥
 pair_or_edges mesh pairs u v h are = false≢true (sym h.outside ∙ all_pairs mesh pairs are (u, v) h.listed)
 
-odd_one : (mesh : Mesh) (chain : Chain) (pairs : List (ℕ × ℕ)) (a b : Fault) → IsOddFault mesh chain pairs a →
-    IsOddFault mesh chain pairs b → a ≡ b
+odd_one : (mesh : Mesh) (chain : Chain) (pairs : List (ℕ × ℕ)) (a b : Fault) → IsFirstFault mesh chain (odd_pairs pairs) a →
+    IsFirstFault mesh chain (odd_pairs pairs) b → a ≡ b
 odd_one mesh chain pairs (no_pair u v) (no_pair x y) h k =
     let below : (p q : ℕ × ℕ) → IsNoPair mesh pairs p.0 p.1 → IsNoPair mesh pairs q.0 q.1 → pair_lt p q ≡ true → ⊥ =
     λ p q hp hq less. false≢true (sym hp.outside ∙ hq.least p less hp.listed) in

@@ -49,23 +49,11 @@ pub record IsEvenNumber (mesh : Mesh) (chain : Chain) (pairs : List (ℕ × ℕ)
   pub faces_even : (f : ℕ) → f < face_count mesh → has_odd_sides mesh pairs f ≡ false
   pub chain_even : is_odd_in mesh chain pairs ≡ false
 
--- the first fault of faces as null evidence
-abbrev pub IsNullFault : Mesh → Chain → List ℕ → Fault → Type 0
-IsNullFault mesh chain faces (no_face f) = IsNoFace mesh faces f
-IsNullFault mesh chain faces (no_boundary u v) = IsNoBoundary mesh chain faces u v
-IsNullFault mesh chain faces (no_pair u v) = ⊥
-IsNullFault mesh chain faces (odd_face f) = ⊥
-IsNullFault mesh chain faces even_number = ⊥
-
--- the first fault of pairs as odd evidence
-abbrev pub IsOddFault : Mesh → Chain → List (ℕ × ℕ) → Fault → Type 0
-IsOddFault mesh chain pairs (no_face f) = ⊥
-IsOddFault mesh chain pairs (no_boundary u v) = ⊥
-IsOddFault mesh chain pairs (no_pair u v) = IsNoPair mesh pairs u v
-IsOddFault mesh chain pairs (odd_face f) = IsOddFace mesh pairs f
-IsOddFault mesh chain pairs even_number = IsEvenNumber mesh chain pairs
-
--- the first fault of evidence
+-- the first fault of faces as null evidence, or of pairs as odd evidence
 abbrev pub IsFirstFault : Mesh → Chain → Evidence → Fault → Type 0
-IsFirstFault mesh chain (null_faces faces) fault = IsNullFault mesh chain faces fault
-IsFirstFault mesh chain (odd_pairs pairs) fault = IsOddFault mesh chain pairs fault
+IsFirstFault mesh chain (null_faces faces) (no_face f) = IsNoFace mesh faces f
+IsFirstFault mesh chain (null_faces faces) (no_boundary u v) = IsNoBoundary mesh chain faces u v
+IsFirstFault mesh chain (odd_pairs pairs) (no_pair u v) = IsNoPair mesh pairs u v
+IsFirstFault mesh chain (odd_pairs pairs) (odd_face f) = IsOddFace mesh pairs f
+IsFirstFault mesh chain (odd_pairs pairs) even_number = IsEvenNumber mesh chain pairs
+IsFirstFault mesh chain evidence fault = ⊥

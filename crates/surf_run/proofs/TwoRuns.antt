@@ -95,8 +95,8 @@ module _ (files : Files) (mesh lengths cert text : List ℕ) (held : bytes_of fi
         let c = chosen_cert read.1 gives.found.trees in
         let counts = mesh_texts_are_few bytes read (read_back off_cause read (off_of bytes) surface.0) in
         let shape = gives.valid.shape in
-        let distances : length c.tree.distance ≡ read.1.vertices = shape.distances in
-        let depths : length c.dual.depth ≡ face_count read.1 = shape.depths in
+        let distances : length c.tree.distance ≡ read.1.vertices = shape.vertices.distances in
+        let depths : length c.dual.depth ≡ face_count read.1 = shape.faces.depths in
         let full : IsLoopCount read.1 (length c.left) = shape.loops in
         let loops = few_loops read.1 few in
         let vertices : read.1.vertices ≤ 1000000 = counts.0 in
@@ -158,9 +158,9 @@ module _ (files : Files) (mesh lengths cert text : List ℕ) (held : bytes_of fi
         let c = basis_cert_of read.1 gives.found.trees gives.found.basis in
         let mesh_few = mesh_texts_are_few bytes read (read_back off_cause read (off_of bytes) is_surface.0) in
         let shape = gives.valid.shape in
-        let trees : length c.trees ≡ m.vertices = shape.trees in
-        let depths : length c.dual.depth ≡ face_count m = shape.depths in
-        let full : IsLoopCount m (length c.left) = shape.loops in
+        let trees : length c.trees ≡ m.vertices = shape.vertices.trees in
+        let depths : length c.dual.depth ≡ face_count m = shape.faces.depths in
+        let full : IsLoopCount m (length c.left) = shape.loops.left in
         let loops = few_loops m few_loops_are in
         let vertices = few in
         let faces : face_count m ≤ 2000000 = mesh_few.1 in

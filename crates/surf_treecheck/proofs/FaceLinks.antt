@@ -1,8 +1,8 @@
 -- The links of faces, and the ways by them.
-use Rattle.surf_surfaces.proofs.Common.{◌≡◌, ◌≢◌, ℕ, ◌<◌, ◌+◌, [], ◌∷◌, ◌++◌, length, subst, arith, Option, Some, None, cond, eqb, List, get_or, sym, ap, ◌∙◌, inl, inr, length-append, get_or_append_left, cases_eq, Mesh, face_count, edge_count, faces_of, IsSurface, edge_number}
+use Rattle.surf_surfaces.proofs.Common.{unwrap_or, ◌≡◌, ◌≢◌, ℕ, ◌<◌, ◌+◌, [], ◌∷◌, ◌++◌, length, subst, arith, Option, Some, None, cond, eqb, List, get_or, sym, ap, ◌∙◌, inl, inr, length-append, get_or_append_left, cases_eq, Mesh, face_count, edge_count, faces_of, IsSurface, edge_number}
 use Rattle.std.proofs.Math.Seq.{get_or-append_seam}
 use Rattle.surf_validity.specs.Rows.{DualRows}
-use Rattle.surf_validity.specs.Valid.{depth_at, side_at, or_zeros, IsDualRow}
+use Rattle.surf_validity.specs.Valid.{depth_at, side_at, IsDualRow}
 use Rattle.surf_validity.proofs.DualLaws.{row_falls}
 use Rattle.surf_treecheck.specs.First.{HoldsBelow}
 use Rattle.surf_treecheck.specs.Rows.{HasDual}
@@ -39,7 +39,7 @@ links_more mesh dual n parent up face edge are is = record {
 
 -- a face other than face 0 has a link
 link_from : (mesh : Mesh) (dual : DualRows) (f face edge : ℕ) (o : Option (ℕ × ℕ)) → IsDualRow mesh dual f o → f ≢ 0 →
-    HasLink mesh f o face edge → IsLinkOver mesh f (or_zeros o) face edge
+    HasLink mesh f o face edge → IsLinkOver mesh f (unwrap_or o (0, 0)) face edge
 link_from mesh dual f face edge None row ne has = absurd (ne row.0)
 link_from mesh dual f face edge (Some side) row ne has = has
 

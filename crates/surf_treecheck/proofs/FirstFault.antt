@@ -1,6 +1,7 @@
 -- Faults that name the first condition that fails, each with its least witness, are one.
 use Rattle.surf_surfaces.proofs.Common.{◌≡◌, ◌≢◌, ℕ, zero, suc, ◌<◌, inl, inr, refl, sym, subst, arith, cases_lt, cases_eq}
 use Rattle.surf_treecheck.specs.First.{FailsFirst}
+use Rattle.surf_treecheck.specs.Shapes.{FirstPart}
 use Rattle.surf_treecheck.specs.declared.fault.CertPart.{CertPart}
 use Rattle.surf_treecheck.specs.declared.fault.CertPart.TheVariants.{Vertices, Faces, Loops, Base}
 use Rattle.surf_treecheck.specs.declared.fault.CertFault.{CertFault}
@@ -19,13 +20,6 @@ first_same n P j k a b = elim (cases_eq j k) [
 ]
 
 -- ---- parts
-
--- the first of four conditions that fails
-abbrev pub FirstPart : Type 0 → Type 0 → Type 0 → Type 0 → CertPart → Type 0
-FirstPart A B C D Vertices = A → ⊥
-FirstPart A B C D Faces = A × (B → ⊥)
-FirstPart A B C D Loops = A × B × (C → ⊥)
-FirstPart A B C D Base = A × B × C × (D → ⊥)
 
 pub first_part_same : (A B C D : Type 0) (p q : CertPart) → FirstPart A B C D p → FirstPart A B C D q → p ≡ q
 first_part_same A B C D Vertices Vertices a b = refl

@@ -1,19 +1,8 @@
 -- The conditions on the rows of a certificate, each by its number.
-use Rattle.std.specs.Prelude.{◌≡◌, ℕ, List, length}
+use Rattle.std.specs.Prelude.{ℕ, List}
 use Rattle.surf_surfaces.specs.Mesh.{Mesh}
-use Rattle.surf_surfaces.specs.Surface.{face_count}
 use Rattle.surf_validity.specs.Rows.{TreeRows, DualRows}
 use Rattle.surf_validity.specs.Valid.{parent_at, side_at, IsParent, AddsUp, IsDualRow}
-
--- there is a row for each vertex
-pub record HasTreeRows (mesh : Mesh) (rows : TreeRows) : Type 0 where
-  pub distances : length rows.distance ≡ mesh.vertices
-  pub parents : length rows.parent ≡ mesh.vertices
-
--- there is a row for each face
-pub record HasDualRows (mesh : Mesh) (dual : DualRows) : Type 0 where
-  pub depths : length dual.depth ≡ face_count mesh
-  pub sides : length dual.side ≡ face_count mesh
 
 -- a vertex has the parent that it should: none at the base, and else a neighbour
 abbrev pub HasParent : Mesh → TreeRows → ℕ → Type 0

@@ -5,9 +5,9 @@ ghost use Rattle.surf_surfaces.specs.Mesh.{pair};
 ghost use Rattle.surf_surfaces.specs.Surface.{edge_count, face_count, face_at, faces_of, has_side};
 ghost use Rattle.surf_surfaces.specs.Surface.{borders};
 ghost use Rattle.surf_surfaces.specs.Walk.{edge_number};
-ghost use Rattle.surf_validity.specs.Valid.{IsDualRow};
+ghost use Rattle.surf_validity.specs.Valid.{IsDualRow, HasDualRows};
 ghost use Rattle.surf_treecheck.specs.First.{FindsFirst, Tells};
-ghost use Rattle.surf_treecheck.specs.Rows.{HasDualRows, HasDual};
+ghost use Rattle.surf_treecheck.specs.Rows.{HasDual};
 
 use crate::edges::{edge_near, faces_inside};
 use surf_base::{EdgeId, FaceId, VertexId};

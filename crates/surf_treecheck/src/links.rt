@@ -3,9 +3,9 @@ ghost use Rattle.std.specs.Prelude.{◌≡◌, ◌≢◌, ◌<◌, IfOk};
 ghost use Rattle.std.specs.Prelude.{true};
 ghost use Rattle.surf_surfaces.specs.Mesh.{pair};
 ghost use Rattle.surf_surfaces.specs.Surface.{face_count, face_at, has_side};
-ghost use Rattle.surf_validity.specs.Valid.{IsDualRow};
+ghost use Rattle.surf_validity.specs.Valid.{IsDualRow, HasDualRows};
 ghost use Rattle.surf_treecheck.specs.First.{HoldsBelow};
-ghost use Rattle.surf_treecheck.specs.Rows.{HasDualRows, HasDual};
+ghost use Rattle.surf_treecheck.specs.Rows.{HasDual};
 ghost use Rattle.surf_treecheck.specs.Paths.{IsLinkOver, HasLink, IsStepUp, AreAllLinks};
 
 use crate::dual::{edge_of_face, face_across};

@@ -4,8 +4,7 @@ ghost use Rattle.std.specs.Prelude.{◌≡◌, ◌<◌, ◌||◌, ℕ, IfOk, len
 ghost use Rattle.surf_surfaces.specs.Mesh.{pair, pair_eq};
 ghost use Rattle.surf_surfaces.specs.Surface.{edge_count, face_count, ends};
 ghost use Rattle.surf_validity.specs.Valid.{parent_at, side_at, leads_up, is_side, is_parent_edge};
-ghost use Rattle.surf_validity.specs.Valid.{is_dual_edge, is_listed};
-ghost use Rattle.surf_treecheck.specs.Rows.{HasTreeRows, HasDualRows};
+ghost use Rattle.surf_validity.specs.Valid.{is_dual_edge, is_listed, HasTreeRows, HasDualRows};
 ghost use Rattle.surf_treecheck.specs.Between.{IsEdgeBetween};
 ghost use Rattle.surf_treecheck.specs.Split.{AreFlags, none};
 

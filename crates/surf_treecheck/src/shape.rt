@@ -1,11 +1,10 @@
 //! Whether the parts of a certificate have the sizes that the mesh asks for.
 ghost use Rattle.std.specs.Prelude.{◌≡◌, ◌<◌, MatchOption, length};
 ghost use Rattle.surf_surfaces.specs.Homology.{IsLoopCount};
-ghost use Rattle.surf_validity.specs.Bases.{tree_at, HasBasisShape};
-ghost use Rattle.surf_validity.specs.Valid.{HasShape};
+ghost use Rattle.surf_validity.specs.Bases.{tree_at, HasBasisShape, HasTrees, HasCounts};
+ghost use Rattle.surf_validity.specs.Valid.{HasShape, HasTreeRows, HasDualRows};
 ghost use Rattle.surf_treecheck.specs.First.{HoldsBelow, Tells};
-ghost use Rattle.surf_treecheck.specs.Rows.{HasTreeRows, HasDualRows};
-ghost use Rattle.surf_treecheck.specs.Shapes.{IsShapeFault, HasBase, HasTrees, HasCounts, IsBasisShapeFault};
+ghost use Rattle.surf_treecheck.specs.Shapes.{IsShapeFault, HasBase, IsBasisShapeFault};
 
 use crate::fault::CertPart;
 use surf_base::VertexId;

@@ -3,9 +3,8 @@ ghost use Rattle.std.specs.Prelude.{◌≡◌, ◌<◌, if◌then◌else◌, IfO
 ghost use Rattle.std.specs.Prelude.{MatchBool, length, take};
 ghost use Rattle.surf_surfaces.specs.Mesh.{pair, pair_lt, edges, among};
 ghost use Rattle.surf_surfaces.specs.Surface.{edge_count, IsSurface};
-ghost use Rattle.surf_validity.specs.Valid.{just_one, IsDivided};
+ghost use Rattle.surf_validity.specs.Valid.{just_one, IsDivided, HasTreeRows, HasDualRows};
 ghost use Rattle.surf_treecheck.specs.First.{FindsFirst};
-ghost use Rattle.surf_treecheck.specs.Rows.{HasTreeRows, HasDualRows};
 ghost use Rattle.surf_treecheck.specs.Split.{AreOne, AreMarks, IsLeastStray, lesser_of, least_with, IsLeastBadPair};
 
 use crate::edges::{ends_inside, in_order};

@@ -3,9 +3,9 @@ ghost use Rattle.std.specs.Prelude.{◌≡◌, ◌<◌, length, Contains};
 ghost use Rattle.surf_surfaces.specs.Mesh.{edges, pair};
 ghost use Rattle.surf_surfaces.specs.Surface.{edge_count};
 ghost use Rattle.surf_surfaces.specs.Walk.{edge_number};
-ghost use Rattle.surf_validity.specs.Valid.{IsParent, AddsUp, IsNoShortCut};
+ghost use Rattle.surf_validity.specs.Valid.{IsParent, AddsUp, IsNoShortCut, HasTreeRows};
 ghost use Rattle.surf_treecheck.specs.First.{HoldsBelow, FindsFirst, Tells};
-ghost use Rattle.surf_treecheck.specs.Rows.{HasTreeRows, HasParent, HasDistance};
+ghost use Rattle.surf_treecheck.specs.Rows.{HasParent, HasDistance};
 
 use crate::edges::{edge_up_at, ends_inside};
 use surf_base::{EdgeId, VertexId};

@@ -2,7 +2,7 @@
 ghost use Rattle.std.specs.Prelude.{◌≡◌, MatchOption, length};
 ghost use Rattle.surf_surfaces.specs.Surface.{edge_count};
 ghost use Rattle.surf_treecheck.specs.First.{HoldsBelow};
-ghost use Rattle.surf_treecheck.specs.Shapes.{HasTrees};
+ghost use Rattle.surf_validity.specs.Bases.{HasTrees};
 ghost use Rattle.surf_treecheck.specs.TreeFaults.{HasParentAt, HasDistanceAt, IsNoShortCutAt, HasParents};
 ghost use Rattle.surf_treecheck.specs.TreeFaults.{AreTreesValid, IsTreesFault, FindsFirstAt};
 

@@ -166,7 +166,7 @@ module _ (mesh : Mesh) (lengths : List ℕ) (cert : BasisCert) (surface : IsSurf
     basis : IsBasis mesh cert.cycles
     basis = record {
       closed = closed;
-      count = valid.shape.cycles;
+      count = valid.shape.loops.cycles;
       independent = (independent_by_classes mesh d surface split cert.cycles closed).1
           (subst (Independent numbers) (sym classes) independent);
     }

@@ -1,5 +1,5 @@
 -- The certificate of the chosen basis is valid.
-use Rattle.surf_surfaces.proofs.Common.{◌≡◌, ℕ, ◌<◌, List, [], ◌∷◌, length, map, get_or, All, sym, ap, ◌∙◌, subst, arith, AllByRecursion, length-map, recursion_from_All, All-from_recursion, greedy, numbers, is_nothing, Independent, SpannedUpToWeight, Decides-is_nothing, primal, Split, IsSplit, loop, signature_of-same, Mesh, edge_count, IsSurface, IsClosed, edge_length, walk_length, ArePositive, cells_of, class_of, loop_walk, walk_signature, Trees, Loop, AreChosen, walks, candidates, IsChosenBasis, weighed, signed, loop_chain, LeastSimpleBasis}
+use Rattle.surf_surfaces.proofs.Common.{◌≡◌, ℕ, ◌<◌, List, [], ◌∷◌, map, get_or, All, sym, ap, ◌∙◌, subst, arith, AllByRecursion, length-map, recursion_from_All, All-from_recursion, greedy, numbers, is_nothing, Independent, SpannedUpToWeight, Decides-is_nothing, primal, Split, IsSplit, loop, signature_of-same, Mesh, edge_count, IsSurface, IsClosed, edge_length, walk_length, ArePositive, cells_of, class_of, loop_walk, walk_signature, Trees, Loop, AreChosen, walks, candidates, IsChosenBasis, weighed, signed, loop_chain, LeastSimpleBasis}
 use Rattle.surf_z2.proofs.Least.{least_law}
 use Rattle.surf_surfaces.proofs.bases.CoveredLaws.{below_closed, below_sized, weighed_loops, loops_covered, candidates_rise}
 use Rattle.surf_surfaces.proofs.bases.BasisLaws.{basis_is_least}
@@ -7,7 +7,7 @@ use Rattle.surf_surfaces.proofs.classes.ClassLaws.{independent_by_classes, some_
 use Rattle.surf_surfaces.proofs.bases.GreedyChoiceLaws.{choice_is_greedy}
 use Rattle.surf_surfaces.proofs.classes.LeastLaws.{weighed_same}
 use Rattle.surf_validity.specs.Rows.{TreeRows, BasisCert}
-use Rattle.surf_validity.specs.Valid.{certified_tree, loop_size, IsTreeValid, IsDivided, IsValidLoops}
+use Rattle.surf_validity.specs.Valid.{HasTreeRows, certified_tree, loop_size, IsTreeValid, IsDivided, IsValidLoops}
 use Rattle.surf_validity.specs.Bases.{no_rows, tree_at, split_in, signatures, weighed_cycle, weighed_loop, IsClosedList, IsCovered, HasBasisShape, IsValidBasis}
 use Rattle.surf_validity.specs.Chosen.{rows_for, chosen_cert, basis_cert_of}
 use Rattle.surf_validity.specs.Laws.{ChosenBasesAreValid}
@@ -128,14 +128,12 @@ module _ (mesh : Mesh) (lengths : List ℕ) (trees : ℕ → Trees) (basis : Lis
   shape =
       let first = (loops_valid 0 some).shape in
       record {
-        trees = size (λ x. rows_for mesh (trees x).tree) mesh.vertices;
-        distances = λ x l.
-            ap (λ (rows : TreeRows). length rows.distance) (rows_are x l) ∙ (loops_valid x l).shape.distances;
-        parents = λ x l. ap (λ (rows : TreeRows). length rows.parent) (rows_are x l) ∙ (loops_valid x l).shape.parents;
-        depths = first.depths;
-        sides = first.sides;
-        loops = first.loops;
-        cycles = least.least.is_basis.count;
+        vertices = record {
+          trees = size (λ x. rows_for mesh (trees x).tree) mesh.vertices;
+          rows = λ x l. subst (HasTreeRows mesh) (sym (rows_are x l)) (loops_valid x l).shape.vertices;
+        };
+        faces = first.faces;
+        loops = record { left = first.loops; cycles = least.least.is_basis.count };
         bases = base_is;
       }
 

@@ -1,5 +1,5 @@
 -- The certificate of the choice is valid.
-use Rattle.surf_surfaces.proofs.Common.{◌≡◌, ◌≢◌, ℕ, zero, suc, ◌+◌, ◌<◌, ◌≤◌, Bool, true, false, not, ◌&&◌, ◌||◌, cond, eqb, List, [], ◌∷◌, length, get_or, map, Contains, refl, sym, ap, ◌∙◌, subst, arith, inl, inr, Some, None, AllByRecursion, list_any, range_with_len, cases_Bool, cases_eq, or_cases, and_parts, ne_eqb, eq-eqb, eqb-true, false≢true, true≢false, false_from_ne_true, lt-ltb, nat_tests, length-map, get_or-map, Contains-get_or, length-range_with_len, get_or-map-range_with_len, xor, any_below-same, primal, between, left_edges as left_count, Mesh, pair, pair_of, pair_eq, edges, face_count, edge_count, face_at, ends, faces_of, has_side, IsSurface, edge_length, edge_number, place_of, ArePositive, cells_of, Trees, AreChosenAt}
+use Rattle.surf_surfaces.proofs.Common.{unwrap_or, ◌≡◌, ◌≢◌, ℕ, zero, suc, ◌+◌, ◌<◌, ◌≤◌, Bool, true, false, not, ◌&&◌, ◌||◌, cond, eqb, List, [], ◌∷◌, length, get_or, map, Contains, refl, sym, ap, ◌∙◌, subst, arith, inl, inr, Some, None, AllByRecursion, list_any, range_with_len, cases_Bool, cases_eq, or_cases, and_parts, ne_eqb, eq-eqb, eqb-true, false≢true, true≢false, false_from_ne_true, lt-ltb, nat_tests, length-map, get_or-map, Contains-get_or, length-range_with_len, get_or-map-range_with_len, xor, any_below-same, primal, between, left_edges as left_count, Mesh, pair, pair_of, pair_eq, edges, face_count, edge_count, face_at, ends, faces_of, has_side, IsSurface, edge_length, edge_number, place_of, ArePositive, cells_of, Trees, AreChosenAt}
 use Rattle.surf_graphs.specs.Trees.{Tree, IsTree, IsShortest, on_way, on_path, loop, graph_loop_length}
 use Rattle.surf_surfaces.specs.Cotree.{tree_edges, cotree_edges, is_left, left_edges, split_of, precedes}
 use Rattle.surf_surfaces.proofs.meshes.PairLaws.{pair_eq-true, pair_eq-same}
@@ -9,7 +9,7 @@ use Rattle.surf_surfaces.proofs.meshes.CellLaws.{surfaces_are_cells, ends_below}
 use Rattle.surf_surfaces.proofs.walks.ShortestTreeLaws.{shortest_is_tree, shortest_is_shortest}
 use Rattle.surf_surfaces.proofs.classes.CotreeLaws.{passing_each, passing_found, is_split}
 use Rattle.surf_validity.specs.Rows.{LoopCert}
-use Rattle.surf_validity.specs.Valid.{distance_at, parent_at, depth_at, side_at, or_zero, certified_tree, dual_tree, across, IsParent, AddsUp, IsNoShortCut, IsTreeValid, IsDualRow, is_parent_edge, is_dual_edge, is_listed, just_one, IsDivided, loop_size, HasNoShorter, HasShape, IsValidLoops}
+use Rattle.surf_validity.specs.Valid.{distance_at, parent_at, depth_at, side_at, certified_tree, dual_tree, across, IsParent, AddsUp, IsNoShortCut, IsTreeValid, IsDualRow, is_parent_edge, is_dual_edge, is_listed, just_one, IsDivided, loop_size, HasNoShorter, HasShape, IsValidLoops}
 use Rattle.surf_validity.specs.Chosen.{parent_in, side_in, chosen_cert}
 use Rattle.surf_validity.specs.Laws.{ChosenLoopsAreValid}
 use Rattle.surf_validity.proofs.TreeLaws.{rows_in_tree}
@@ -158,11 +158,11 @@ module _ (mesh : Mesh) (lengths : List ℕ) (base : ℕ) (trees : Trees) (surfac
   same_tree e l =
       sym (rows_in_tree mesh lengths cert.tree surface positive spans.root_in tree_valid e l)
       ∙ any_below-same mesh.vertices
-      (λ v. not (eqb v tree.root) && eqb (edge_number mesh (or_zero (parent_at cert.tree v), v)) e)
+      (λ v. not (eqb v tree.root) && eqb (edge_number mesh (unwrap_or (parent_at cert.tree v) 0, v)) e)
       (λ v. not (eqb v tree.root) && eqb (tree.up v) e) each
     where
       each : (v : ℕ) → v < mesh.vertices →
-          (not (eqb v tree.root) && eqb (edge_number mesh (or_zero (parent_at cert.tree v), v)) e)
+          (not (eqb v tree.root) && eqb (edge_number mesh (unwrap_or (parent_at cert.tree v) 0, v)) e)
           ≡ (not (eqb v tree.root) && eqb (tree.up v) e)
       each v v_in = elim (cases_eq v tree.root) [
         | inl same ↦ rw (eq-eqb v tree.root same) refl
@@ -319,10 +319,8 @@ module _ (mesh : Mesh) (lengths : List ℕ) (base : ℕ) (trees : Trees) (surfac
 
   shape : HasShape mesh cert
   shape = record {
-    distances = size tree.rank mesh.vertices;
-    parents = size (parent_in tree) mesh.vertices;
-    depths = size cotree.rank (face_count mesh);
-    sides = size (side_in mesh cotree) (face_count mesh);
+    vertices = record { distances = size tree.rank mesh.vertices; parents = size (parent_in tree) mesh.vertices };
+    faces = record { depths = size cotree.rank (face_count mesh); sides = size (side_in mesh cotree) (face_count mesh) };
     loops =
         let n = length-map (left_edges mesh tree cotree) (ends mesh) in
         let count = left_count (cells_of mesh) (split_of mesh tree cotree)

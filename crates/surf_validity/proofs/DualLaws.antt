@@ -1,9 +1,9 @@
 -- Valid rows of faces are a tree of the faces.
-use Rattle.surf_surfaces.proofs.Common.{◌≡◌, ◌≢◌, ℕ, ◌+◌, ◌<◌, true, not, ◌&&◌, ◌||◌, eqb, [], refl, sym, ap, ◌∙◌, arith, Option, Some, None, inl, inr, cases_eq, ne_eqb, eq-eqb, or_left, or_right, and_from, eqb_comm, any_below-same, dual, joins, IsTree, in_tree, Mesh, pair_of, edges, among, face_count, edge_count, face_at, has_side, faces_of, IsSurface, edge_number, place_of, cells_of}
+use Rattle.surf_surfaces.proofs.Common.{unwrap_or, ◌≡◌, ◌≢◌, ℕ, ◌+◌, ◌<◌, true, not, ◌&&◌, ◌||◌, eqb, [], refl, sym, ap, ◌∙◌, arith, Option, Some, None, inl, inr, cases_eq, ne_eqb, eq-eqb, or_left, or_right, and_from, eqb_comm, any_below-same, dual, joins, IsTree, in_tree, Mesh, pair_of, edges, among, face_count, edge_count, face_at, has_side, faces_of, IsSurface, edge_number, place_of, cells_of}
 use Rattle.surf_surfaces.proofs.meshes.EdgeLaws.{place_of-among, among-edges, list_any_from, ends-eq}
 use Rattle.surf_surfaces.proofs.meshes.SurfaceLaws.{two_faces_of}
 use Rattle.surf_validity.specs.Rows.{DualRows}
-use Rattle.surf_validity.specs.Valid.{depth_at, side_at, or_zeros, across, dual_tree, IsDualRow, IsDualValid, is_side, is_dual_edge}
+use Rattle.surf_validity.specs.Valid.{depth_at, side_at, across, dual_tree, IsDualRow, IsDualValid, is_side, is_dual_edge}
 
 module _ (mesh : Mesh) (rows : DualRows) (surface : IsSurface mesh) where
   -- a side of a face is an edge
@@ -54,11 +54,11 @@ module _ (mesh : Mesh) (rows : DualRows) (surface : IsSurface mesh) where
       pub leads_on : LeadsAcross f side
       pub deeper : depth_at rows f ≡ depth_at rows (across mesh f side) + 1
 
-    falls : (f : ℕ) (o : Option (ℕ × ℕ)) → f < face_count mesh → f ≢ 0 → IsDualRow mesh rows f o → Falls f (or_zeros o)
+    falls : (f : ℕ) (o : Option (ℕ × ℕ)) → f < face_count mesh → f ≢ 0 → IsDualRow mesh rows f o → Falls f (unwrap_or o (0, 0))
     falls f None l ne is = absurd (ne is.0)
     falls f (Some side) l ne is = record { leads_on = leads f side l is.1; deeper = is.2 }
 
-    pub row_falls : (f : ℕ) → f < face_count mesh → f ≢ 0 → Falls f (or_zeros (side_at rows f))
+    pub row_falls : (f : ℕ) → f < face_count mesh → f ≢ 0 → Falls f (unwrap_or (side_at rows f) (0, 0))
     row_falls f l ne = falls f (side_at rows f) l ne (valid f l)
 
     pub dual_rows_are_tree : IsTree (dual (cells_of mesh)) (dual_tree mesh rows)
@@ -71,7 +71,7 @@ module _ (mesh : Mesh) (rows : DualRows) (surface : IsSurface mesh) where
     }
 
     same_test : (e f : ℕ) (o : Option (ℕ × ℕ)) → e < edge_count mesh → f < face_count mesh → IsDualRow mesh rows f o →
-        (not (eqb f 0) && eqb (edge_number mesh (or_zeros o)) e) ≡ is_side mesh e o
+        (not (eqb f 0) && eqb (edge_number mesh (unwrap_or o (0, 0))) e) ≡ is_side mesh e o
     same_test e f None e_in l is = rw (eq-eqb f 0 is.0) refl
     same_test e f (Some side) e_in l is =
         rw (ne_eqb f 0 is.0)
@@ -82,5 +82,5 @@ module _ (mesh : Mesh) (rows : DualRows) (surface : IsSurface mesh) where
     pub dual_rows_in_tree : (e : ℕ) → e < edge_count mesh →
         in_tree (dual (cells_of mesh)) (dual_tree mesh rows) e ≡ is_dual_edge mesh rows e
     dual_rows_in_tree e e_in =
-        any_below-same (face_count mesh) (λ f. not (eqb f 0) && eqb (edge_number mesh (or_zeros (side_at rows f))) e)
+        any_below-same (face_count mesh) (λ f. not (eqb f 0) && eqb (edge_number mesh (unwrap_or (side_at rows f) (0, 0))) e)
         (λ f. is_side mesh e (side_at rows f)) (λ f l. same_test e f (side_at rows f) e_in l (valid f l))

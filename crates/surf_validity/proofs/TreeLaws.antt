@@ -1,10 +1,10 @@
 -- Valid rows are a tree of shortest walks.
-use Rattle.surf_surfaces.proofs.Common.{◌≡◌, ◌≢◌, ℕ, ◌+◌, ◌<◌, true, not, ◌&&◌, eqb, List, refl, sym, ◌∙◌, arith, Option, Some, None, ne_eqb, eq-eqb, eqb_comm, any_below-same, primal, joins, IsTree, IsShortest, in_tree, joins_turned, joined_below, Mesh, pair, edges, edge_count, ends, IsSurface, edge_length, edge_number, place_of, ArePositive, cells_of}
+use Rattle.surf_surfaces.proofs.Common.{unwrap_or, ◌≡◌, ◌≢◌, ℕ, ◌+◌, ◌<◌, true, not, ◌&&◌, eqb, List, refl, sym, ◌∙◌, arith, Option, Some, None, ne_eqb, eq-eqb, eqb_comm, any_below-same, primal, joins, IsTree, IsShortest, in_tree, joins_turned, joined_below, Mesh, pair, edges, edge_count, ends, IsSurface, edge_length, edge_number, place_of, ArePositive, cells_of}
 use Rattle.surf_surfaces.proofs.meshes.EdgeLaws.{place_of-among, among-contains, ends-eq}
 use Rattle.surf_surfaces.proofs.meshes.CellLaws.{surfaces_are_cells, joins_from}
 use Rattle.surf_surfaces.proofs.walks.GraphWalkLaws.{joined}
 use Rattle.surf_validity.specs.Rows.{TreeRows}
-use Rattle.surf_validity.specs.Valid.{distance_at, parent_at, or_zero, certified_tree, IsParent, AddsUp, IsTreeValid, leads_up, is_parent_edge}
+use Rattle.surf_validity.specs.Valid.{distance_at, parent_at, certified_tree, IsParent, AddsUp, IsTreeValid, leads_up, is_parent_edge}
 
 module _ (mesh : Mesh) (lengths : List ℕ) (rows : TreeRows) (surface : IsSurface mesh) where
   -- the edge between a vertex and the parent that is given
@@ -15,7 +15,7 @@ module _ (mesh : Mesh) (lengths : List ℕ) (rows : TreeRows) (surface : IsSurfa
     pub sum : distance_at rows v ≡ distance_at rows p + edge_length lengths (edge_number mesh (p, v))
 
   leads : (v : ℕ) (o : Option ℕ) → v ≢ rows.base → IsParent mesh rows.base v o → AddsUp mesh lengths rows v o →
-      LeadsUp v (or_zero o)
+      LeadsUp v (unwrap_or o 0)
   leads v None ne is adds = absurd (ne is)
   leads v (Some p) ne is adds =
       let g = primal (cells_of mesh) in
@@ -30,7 +30,7 @@ module _ (mesh : Mesh) (lengths : List ℕ) (rows : TreeRows) (surface : IsSurfa
 
   module _ (positive : ArePositive mesh lengths) (base_in : rows.base < mesh.vertices)
       (valid : IsTreeValid mesh lengths rows) where
-    up : (v : ℕ) → v < mesh.vertices → v ≢ rows.base → LeadsUp v (or_zero (parent_at rows v))
+    up : (v : ℕ) → v < mesh.vertices → v ≢ rows.base → LeadsUp v (unwrap_or (parent_at rows v) 0)
     up v l ne = leads v (parent_at rows v) ne (valid.parents v l) (valid.distances v l)
 
     pub rows_are_tree : IsTree (primal (cells_of mesh)) (certified_tree mesh rows)
@@ -41,7 +41,7 @@ module _ (mesh : Mesh) (lengths : List ℕ) (rows : TreeRows) (surface : IsSurfa
       up_joins = λ v l ne. (up v l ne).over;
       rank_falls = λ v l ne.
           let it = up v l ne in
-          let some = positive (edge_number mesh (or_zero (parent_at rows v), v)) it.edge_in in
+          let some = positive (edge_number mesh (unwrap_or (parent_at rows v) 0, v)) it.edge_in in
           let is = it.sum in
           omega (arith, is, some);
     }
@@ -60,7 +60,7 @@ module _ (mesh : Mesh) (lengths : List ℕ) (rows : TreeRows) (surface : IsSurfa
     }
 
     same_test : (e v : ℕ) (o : Option ℕ) → e < edge_count mesh → IsParent mesh rows.base v o →
-        (not (eqb v rows.base) && eqb (edge_number mesh (or_zero o, v)) e) ≡ leads_up mesh e v o
+        (not (eqb v rows.base) && eqb (edge_number mesh (unwrap_or o 0, v)) e) ≡ leads_up mesh e v o
     same_test e v None e_in is = rw (eq-eqb v rows.base is) refl
     same_test e v (Some p) e_in is =
         rw (ne_eqb v rows.base is.0)
@@ -72,5 +72,5 @@ module _ (mesh : Mesh) (lengths : List ℕ) (rows : TreeRows) (surface : IsSurfa
         in_tree (primal (cells_of mesh)) (certified_tree mesh rows) e ≡ is_parent_edge mesh rows e
     rows_in_tree e e_in =
         any_below-same mesh.vertices
-        (λ v. not (eqb v rows.base) && eqb (edge_number mesh (or_zero (parent_at rows v), v)) e)
+        (λ v. not (eqb v rows.base) && eqb (edge_number mesh (unwrap_or (parent_at rows v) 0, v)) e)
         (λ v. leads_up mesh e v (parent_at rows v)) (λ v l. same_test e v (parent_at rows v) e_in (valid.parents v l))

@@ -3,7 +3,7 @@ use Rattle.std.specs.Prelude.{◌≡◌, ℕ, ◌<◌, List, length, map, sum, t
 use Rattle.surf_z2.specs.Space.{numbers, Spanned, Weighed, SpannedUpToWeight}
 use Rattle.surf_graphs.specs.Cells.{Split}
 use Rattle.surf_surfaces.specs.Mesh.{Mesh, pair_of, edges, steps}
-use Rattle.surf_surfaces.specs.Surface.{face_count, edge_count}
+use Rattle.surf_surfaces.specs.Surface.{edge_count}
 use Rattle.surf_surfaces.specs.Walk.{first, last, walk_length}
 use Rattle.surf_surfaces.specs.Homology.{IsLoopCount}
 use Rattle.surf_surfaces.specs.Loop.{loop_walk}
@@ -11,6 +11,7 @@ use Rattle.surf_surfaces.specs.Cotree.{split_of}
 use Rattle.surf_surfaces.specs.Signature.{walk_signature}
 use Rattle.surf_validity.specs.Rows.{TreeRows, BasisCert}
 use Rattle.surf_validity.specs.Valid.{certified_tree, dual_tree, loop_size, IsTreeValid, IsDualValid, IsDivided}
+use Rattle.surf_validity.specs.Valid.{HasTreeRows, HasDualRows}
 
 -- no rows
 abbrev pub no_rows : TreeRows
@@ -56,15 +57,21 @@ abbrev pub IsCovered : Mesh → List ℕ → BasisCert → ℕ → ℕ → Type 
 IsCovered mesh lengths cert x e =
     SpannedUpToWeight numbers (map (weighed_cycle mesh lengths cert) cert.cycles) (weighed_loop mesh lengths cert x e)
 
+-- there is a tree for each vertex, with a row for each vertex
+pub record HasTrees (mesh : Mesh) (cert : BasisCert) : Type 0 where
+  pub trees : length cert.trees ≡ mesh.vertices
+  pub rows : (x : ℕ) → x < mesh.vertices → HasTreeRows mesh (tree_at cert x)
+
+-- there are as many left pairs, and as many cycles, as two less the characteristic
+pub record HasCounts (mesh : Mesh) (cert : BasisCert) : Type 0 where
+  pub left : IsLoopCount mesh (length cert.left)
+  pub cycles : IsLoopCount mesh (length cert.cycles)
+
 -- the lists are as long as the mesh asks for, and the tree at each place has that place as its base
 pub record HasBasisShape (mesh : Mesh) (cert : BasisCert) : Type 0 where
-  pub trees : length cert.trees ≡ mesh.vertices
-  pub distances : (x : ℕ) → x < mesh.vertices → length (tree_at cert x).distance ≡ mesh.vertices
-  pub parents : (x : ℕ) → x < mesh.vertices → length (tree_at cert x).parent ≡ mesh.vertices
-  pub depths : length cert.dual.depth ≡ face_count mesh
-  pub sides : length cert.dual.side ≡ face_count mesh
-  pub loops : IsLoopCount mesh (length cert.left)
-  pub cycles : IsLoopCount mesh (length cert.cycles)
+  pub vertices : HasTrees mesh cert
+  pub faces : HasDualRows mesh cert.dual
+  pub loops : HasCounts mesh cert
   pub bases : (x : ℕ) → x < mesh.vertices → (tree_at cert x).base ≡ x
 
 -- a certificate of a basis is valid

@@ -2,6 +2,8 @@
 use Rattle.std.specs.List.{list_any}
 use Rattle.std.specs.Prelude.{◌≡◌, ◌≢◌, ℕ, ◌+◌, ◌<◌, ◌≤◌, ◌==◌, Bool, true, false, not, ◌&&◌, if◌then◌else◌, List}
 use Rattle.std.specs.Prelude.{length, map, sum, All, Contains, slice_index, slice_index_or, Option, Some, None}
+use Rattle.std.specs.Prelude.{unwrap_or}
+use Rattle.std.specs.Option.{option_map_or}
 use Rattle.surf_z2.specs.Parity.{any_below}
 use Rattle.surf_graphs.specs.Growth.{between}
 use Rattle.surf_graphs.specs.Trees.{Tree}
@@ -26,22 +28,12 @@ depth_at dual f = slice_index dual.depth f
 abbrev pub side_at : DualRows → ℕ → Option (ℕ × ℕ)
 side_at dual f = slice_index_or dual.side f None
 
--- a number that is given, or 0
-abbrev pub or_zero : Option ℕ → ℕ
-or_zero None = 0
-or_zero (Some n) = n
-
--- a pair that is given, or that of 0 and 0
-abbrev pub or_zeros : Option (ℕ × ℕ) → ℕ × ℕ
-or_zeros None = (0, 0)
-or_zeros (Some p) = p
-
 -- the tree of vertices that the rows say
 abbrev pub certified_tree : Mesh → TreeRows → Tree
 certified_tree mesh rows = record {
   root = rows.base;
-  parent = λ v. or_zero (parent_at rows v);
-  up = λ v. edge_number mesh (or_zero (parent_at rows v), v);
+  parent = λ v. unwrap_or (parent_at rows v) 0;
+  up = λ v. edge_number mesh (unwrap_or (parent_at rows v) 0, v);
   rank = distance_at rows;
 }
 
@@ -55,8 +47,8 @@ across mesh f side =
 abbrev pub dual_tree : Mesh → DualRows → Tree
 dual_tree mesh dual = record {
   root = 0;
-  parent = λ f. across mesh f (or_zeros (side_at dual f));
-  up = λ f. edge_number mesh (or_zeros (side_at dual f));
+  parent = λ f. across mesh f (unwrap_or (side_at dual f) (0, 0));
+  up = λ f. edge_number mesh (unwrap_or (side_at dual f) (0, 0));
   rank = depth_at dual;
 }
 
@@ -100,13 +92,11 @@ IsDualValid mesh dual = (f : ℕ) → f < face_count mesh → IsDualRow mesh dua
 
 -- whether the edge is that between a vertex and its parent
 abbrev pub leads_up : Mesh → ℕ → ℕ → Option ℕ → Bool
-leads_up mesh e v None = false
-leads_up mesh e v (Some p) = pair_eq (ends mesh e) (pair p v)
+leads_up mesh e v parent = option_map_or (λ p. pair_eq (ends mesh e) (pair p v)) parent false
 
 -- whether the edge is the side
 abbrev pub is_side : Mesh → ℕ → Option (ℕ × ℕ) → Bool
-is_side mesh e None = false
-is_side mesh e (Some side) = pair_eq (ends mesh e) (pair_of side)
+is_side mesh e side = option_map_or (λ s. pair_eq (ends mesh e) (pair_of s)) side false
 
 abbrev pub is_parent_edge : Mesh → TreeRows → ℕ → Bool
 is_parent_edge mesh rows e = any_below mesh.vertices (λ v. leads_up mesh e v (parent_at rows v))
@@ -149,12 +139,20 @@ HasNoShorter mesh lengths cert l =
 
 -- ---- the certificate
 
+-- there is a row for each vertex
+pub record HasTreeRows (mesh : Mesh) (rows : TreeRows) : Type 0 where
+  pub distances : length rows.distance ≡ mesh.vertices
+  pub parents : length rows.parent ≡ mesh.vertices
+
+-- there is a row for each face
+pub record HasDualRows (mesh : Mesh) (dual : DualRows) : Type 0 where
+  pub depths : length dual.depth ≡ face_count mesh
+  pub sides : length dual.side ≡ face_count mesh
+
 -- the lists are as long as the mesh asks for, and the base is a vertex
 pub record HasShape (mesh : Mesh) (cert : LoopCert) : Type 0 where
-  pub distances : length cert.tree.distance ≡ mesh.vertices
-  pub parents : length cert.tree.parent ≡ mesh.vertices
-  pub depths : length cert.dual.depth ≡ face_count mesh
-  pub sides : length cert.dual.side ≡ face_count mesh
+  pub vertices : HasTreeRows mesh cert.tree
+  pub faces : HasDualRows mesh cert.dual
   pub loops : IsLoopCount mesh (length cert.left)
   pub base : cert.tree.base < mesh.vertices
 

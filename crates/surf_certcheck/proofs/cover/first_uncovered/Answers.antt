@@ -7,7 +7,7 @@ use Rattle.surf_certcheck.specs.Frames.{IsCoveredBy}
 use Rattle.surf_certcheck.proofs.Bases.{AreCovered, first_at, holds_more}
 use Rattle.surf_lengths.proofs.Positive.{lengths_positive}
 use Rattle.surf_certcheck.proofs.Independence.{frame_whole}
-use Rattle.surf_certcheck.proofs.Validity.{climbed_at, has_trees}
+use Rattle.surf_certcheck.proofs.Validity.{climbed_at}
 use Rattle.surf_certcheck.proofs.cover.first_uncovered.Goals as goal
 
 pub sum_ways-requires-clause-climbed : goal.sum_ways-requires-clause-climbed
@@ -18,7 +18,7 @@ sum_ways-requires-clause-climbed c =
     c.tree_from-rows.ensures.tree ∙ ap (tree_at cert) c.new-base.ensures in
     subst (IsClimbed mesh) (sym is)
     (climbed_at mesh c.args.case.now.lengths.now cert c.vertices-x-end.ensures.surface
-    (lengths_positive mesh c.args.case.now.lengths.now c.law_of_lengths.ensures.lengths c.args.case.now.measured) (has_trees mesh cert c.args.case.now.shape)
+    (lengths_positive mesh c.args.case.now.lengths.now c.law_of_lengths.ensures.lengths c.args.case.now.measured) c.args.case.now.shape.vertices
     c.args.case.now.shape.bases c.requires.valid c.loop-x.x (omega (arith, c.loop-x-test.true, c.vertices-x-end.ensures.count)))
 
 pub first_uncovered-requires : goal.first_uncovered-requires
@@ -32,7 +32,7 @@ first_uncovered-requires c =
         climbed = subst (IsClimbed mesh) (sym is)
             (climbed_at mesh c.args.case.now.lengths.now cert c.vertices-x-end.ensures.surface
             (lengths_positive mesh c.args.case.now.lengths.now c.law_of_lengths.ensures.lengths c.args.case.now.measured)
-            (has_trees mesh cert c.args.case.now.shape) c.args.case.now.shape.bases c.requires.valid c.loop-x.x
+            c.args.case.now.shape.vertices c.args.case.now.shape.bases c.requires.valid c.loop-x.x
             (omega (arith, c.loop-x-test.true, c.vertices-x-end.ensures.count)));
         room = c.sum_ways.ensures.room;
         summed = c.sum_ways.ensures.summed;

@@ -1,7 +1,7 @@
-use Rattle.surf_surfaces.proofs.Common.{◌≡◌, ◌<◌, ◌*◌, ◌^◌, ◌∙◌, None, Some, bit_xor, slice_index, sym, ap, subst, arith, get_or-set_same, edge_number, xor_lt, pow_pos}
+use Rattle.surf_surfaces.proofs.Common.{unwrap_or, ◌≡◌, ◌<◌, ◌*◌, ◌^◌, ◌∙◌, None, Some, bit_xor, slice_index, sym, ap, subst, arith, get_or-set_same, edge_number, xor_lt, pow_pos}
 use Rattle.surf_signatures.specs.Tables.{Signed, words_for}
 use Rattle.surf_signatures.specs.Ways.{way_class}
-use Rattle.surf_validity.specs.Valid.{certified_tree, parent_at, or_zero, IsParent}
+use Rattle.surf_validity.specs.Valid.{certified_tree, parent_at, IsParent}
 use Rattle.surf_certcheck.proofs.Climbing.{step_up, at_base, way_summed, way_empty}
 use Rattle.surf_certcheck.proofs.sums.sum_way.Goals as goal
 use Rattle.surf_certcheck.proofs.sums.sum_way.Goals.{in-Some, in_default}
@@ -46,7 +46,7 @@ returns-clause-summed c d to taken before =
           let is : parent_at rows v ≡ Some p = sym c.parent_of.ensures.parent ∙ x.in-Some.is in
           let step = step_up mesh rows v p c.requires.climbed c.requires.vertex is in
           let edge : x.edge_between.result ≡ (certified_tree mesh rows).up v =
-          x.edge_between.ensures.edge ∙ ap (λ o. edge_number mesh (or_zero o, v)) (sym is) in
+          x.edge_between.ensures.edge ∙ ap (λ o. edge_number mesh (unwrap_or o 0, v)) (sym is) in
           let sum : c.match-parent_of.sum ≡ bit_xor (bit_xor 0 above) added =
           x.sum-is ∙ x.add-in-Some.ensures ∙ ap (λ n. bit_xor n added) (x.add.ensures ∙ ap (λ z. bit_xor z above) c.zero-sum.ensures) in
           way_summed mesh d to c.args.signs.now.sets taken rows c.requires.climbed v x.edge_between.result p above added c.match-parent_of.sum

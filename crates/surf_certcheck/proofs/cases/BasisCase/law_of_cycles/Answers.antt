@@ -6,5 +6,5 @@ returns c =
     let case = c.args.self.now in
     let mesh = case.mesh.now in
     let few : edge_count mesh + 2 - (mesh.vertices + face_count mesh) ≤ 1024 = case.few in
-    let count : length case.cert.now.cycles + mesh.vertices + face_count mesh ≡ edge_count mesh + 2 = case.shape.cycles in
+    let count : length case.cert.now.cycles + mesh.vertices + face_count mesh ≡ edge_count mesh + 2 = case.shape.loops.cycles in
     record { few = omega (arith, few, count) }
