@@ -3,7 +3,7 @@ use Rattle.surf_base.specs.declared.limits.LimitKind.TheVariants.{Answer}
 use Rattle.surf_basis.specs.Cycles.{as_loops}
 use Rattle.surf_basis.specs.declared.cycle.Cycle.{Cycle}
 use Rattle.surf_text.specs.Pages.{PageState, grown, Stops}
-use Rattle.surf_texts.specs.CycleTexts.{cycles_text}
+use Rattle.surf_texts.specs.MeasuredTexts.{measured_text}
 use Rattle.surf_answers.specs.LeastBasis.{GivesBasis}
 use Rattle.surf_texts.specs.Limits.{beyond}
 use Rattle.surf_texts.specs.Outcome.{answers}
@@ -19,10 +19,10 @@ returns-in_err-put_basis c =
     let e = c.in_ok-basis.ensures in
     let fault = c.in_err-put_basis.field-0.0 in
     let p = err_from_is_err_and c.from_residual-in_err-put_basis.result c.from_residual-in_err-put_basis.ensures.1 in
-    rw (p.1, p.2) (why_overfilled (GivesBasis mesh lengths) (cycles_text basis) fault
-    (λ long. gives_basis mesh lengths c.law_of_surface.ensures.surface c.law_of_lengths.ensures.lengths c.requires.lengths basis e.chosen e.least (beyond Answer) (says_beyond (cycles_text basis) long))
-    (subst (λ (cycles : List Cycle). Stops blank (cycles_text (as_loops cycles)) fault) c.deref.ensures.value
-    (subst (λ (page : PageState). Stops page (cycles_text (as_loops c.deref.result.now)) fault) c.make-page.ensures.empty c.in_err-put_basis.ensures.1)))
+    rw (p.1, p.2) (why_overfilled (GivesBasis mesh lengths) (measured_text "cycles " "cycle " basis) fault
+    (λ long. gives_basis mesh lengths c.law_of_surface.ensures.surface c.law_of_lengths.ensures.lengths c.requires.lengths basis e.chosen e.least (beyond Answer) (says_beyond (measured_text "cycles " "cycle " basis) long))
+    (subst (λ (cycles : List Cycle). Stops blank (measured_text "cycles " "cycle " (as_loops cycles)) fault) c.deref.ensures.value
+    (subst (λ (page : PageState). Stops page (measured_text "cycles " "cycle " (as_loops c.deref.result.now)) fault) c.make-page.ensures.empty c.in_err-put_basis.ensures.1)))
 
 pub returns : goal.returns
 returns c =
@@ -30,12 +30,12 @@ returns c =
     let lengths = c.args.lengths.now in
     let basis = as_loops c.in_ok-basis.basis.items in
     let e = c.in_ok-basis.ensures in
-    let filled : c.put_basis.new.page ≡ grown c.make-page.result (cycles_text basis) =
-    subst (λ (cycles : List Cycle). c.put_basis.new.page ≡ grown c.make-page.result (cycles_text (as_loops cycles))) c.deref.ensures.value c.in_ok-put_basis.ensures in
+    let filled : c.put_basis.new.page ≡ grown c.make-page.result (measured_text "cycles " "cycle " basis) =
+    subst (λ (cycles : List Cycle). c.put_basis.new.page ≡ grown c.make-page.result (measured_text "cycles " "cycle " (as_loops cycles))) c.deref.ensures.value c.in_ok-put_basis.ensures in
     let most : c.put_basis.new.page.most ≡ 1073741824 = ap (λ (page : PageState). page.most) filled ∙ ap (λ (page : PageState). page.most) c.make-page.ensures.empty in
     ends_as (GivesBasis mesh lengths) c.yes.result _ c.yes.ensures
     (gives_basis mesh lengths c.law_of_surface.ensures.surface c.law_of_lengths.ensures.lengths c.requires.lengths basis e.chosen e.least
     (answers 0 c.into_bytes.result.items)
-    (says_whole (cycles_text basis) c.into_bytes.result.items
-    (c.into_bytes.ensures.bytes ∙ ap (λ (page : PageState). page.bytes) filled ∙ ap (λ (page : PageState). page.bytes ++ cycles_text basis) c.make-page.ensures.empty)
+    (says_whole (measured_text "cycles " "cycle " basis) c.into_bytes.result.items
+    (c.into_bytes.ensures.bytes ∙ ap (λ (page : PageState). page.bytes) filled ∙ ap (λ (page : PageState). page.bytes ++ measured_text "cycles " "cycle " basis) c.make-page.ensures.empty)
     (subst (λ (n : ℕ). length c.into_bytes.result.items ≤ n) most c.into_bytes.ensures.within)))
