@@ -5,7 +5,10 @@ use Rattle.surf_loops.specs.Loops.{LoopTables, IsGreedy, loop_of, trees_of}
 use Rattle.surf_loops.specs.declared.head.LoopHead.{LoopHead}
 use Rattle.surf_texts.specs.MeasuredTexts.{measured_line, total_lines, measured_text}
 use Rattle.surf_answers.specs.HeadTexts.{head_line, heads_text}
+use Rattle.surf_answers.specs.LeastLoops.{GivesLoops}
+use Rattle.surf_answers.specs.Says.{Says}
 use Rattle.surf_answers.specs.Summaries.{total_size}
+use Rattle.surf_texts.specs.Outcome.{Outcome}
 
 module _ (mesh : Mesh) (t : LoopTables) where
   as_many : (heads : List LoopHead) → length (map (loop_of mesh t) heads) ≡ length heads
@@ -35,8 +38,14 @@ weaker P Q [] f all = tt
 weaker P Q (x ∷ xs) f all = (f x all.0, weaker P Q xs f all.1)
 
 module _ (mesh : Mesh) (lengths : List ℕ) (base : ℕ) (t : LoopTables) (greedy : IsGreedy mesh lengths base t) where
-  pub heads_are_loops : heads_text mesh t.tree t.heads ≡ measured_text "loops " "loop " (loops_at mesh lengths base (trees_of t))
+  heads_are_loops : heads_text mesh t.tree t.heads ≡ measured_text "loops " "loop " (loops_at mesh lengths base (trees_of t))
   heads_are_loops = sym (text_of_heads mesh t) ∙ ap (measured_text "loops " "loop ") greedy.heads
+
+  pub gives_loops : (o : Outcome) → Says (heads_text mesh t.tree t.heads) o → GivesLoops mesh lengths base o
+  gives_loops o says = record {
+    found = record { trees = trees_of t; chosen = greedy.chosen; least = greedy.least };
+    says = subst (λ (text : List ℕ). Says text o) heads_are_loops says;
+  }
 
   pub heads_total : sum (map (λ h. h.length) t.heads) ≡ total_size (loops_at mesh lengths base (trees_of t))
   heads_total = ap sum (sym (as_long mesh t t.heads)) ∙ ap total_size greedy.heads
