@@ -1,26 +1,19 @@
 -- Certificates of the choice as answers.
-use Rattle.surf_surfaces.proofs.Common.{◌≡◌, ℕ, ◌≤◌, ◌++◌, List, length, Result, Ok, Err, ap, ◌∙◌, subst, Mesh, IsSurface, edge_count}
+use Rattle.surf_surfaces.proofs.Common.{◌≡◌, ℕ, List, length, Result, Ok, Err, subst, Mesh, IsSurface, edge_count}
 use Rattle.std.specs.Result.{IfOk}
-use Rattle.surf_base.specs.declared.limits.LimitKind.TheVariants.{Answer}
 use Rattle.surf_basis.specs.Certs.{IsTheCert}
 use Rattle.surf_cert.specs.Written.{loop_text, basis_text}
 use Rattle.surf_lengths.specs.Lengths.{AreLengths}
 use Rattle.surf_lengths.proofs.Positive.{lengths_positive}
 use Rattle.surf_surfaces.proofs.bases.BasisLaws.{basis_is_least}
 use Rattle.surf_loops.specs.Loops.{LoopTables, IsGreedy, trees_of}
-use Rattle.surf_text.specs.Pages.{PageState, grown, Stops}
-use Rattle.surf_text.specs.declared.page.PageFault.{PageFault}
 use Rattle.surf_validity.specs.Rows.{LoopCert, BasisCert}
 use Rattle.surf_validity.specs.Bases.{IsValidBasis}
 use Rattle.surf_validity.specs.Chosen.{chosen_cert}
 use Rattle.surf_validity.specs.Valid.{IsValidLoops}
 use Rattle.surf_answers.specs.Certificates.{IsTheLoopCert, GivesLoopCert, GivesBasisCert}
-use Rattle.surf_texts.specs.Limits.{beyond}
-use Rattle.surf_texts.specs.Outcome.{Outcome, answers}
-use Rattle.surf_texts.specs.Refusals.{cause_of, of_page}
+use Rattle.surf_texts.specs.Outcome.{Outcome}
 use Rattle.surf_answers.specs.Says.{Says}
-use Rattle.surf_answers.specs.Tells.{Why}
-use Rattle.surf_answers.proofs.Saying.{blank, says_whole, says_beyond, why_overfilled}
 
 -- the certificate of the loops that a desk has, where a call gives one
 pub is_the_loop_cert : {E : Type 0} (mesh : Mesh) (lengths : List ℕ) (base : ℕ) (t : LoopTables) (result : Result LoopCert E) →
@@ -55,18 +48,3 @@ gives_basis_cert mesh lengths cert surface are sized is valid o says = record {
   valid = subst (λ (x : BasisCert). IsValidBasis mesh lengths x) is.cert_is valid;
   says = subst (λ (x : BasisCert). Says (basis_text x) o) is.cert_is says;
 }
-
--- ---- a text on a blank page
-
-module _ (text : List ℕ) (page : PageState) (is_blank : page ≡ blank) where
-  pub says_page : (new : PageState) (bytes : List ℕ) → new ≡ grown page text → bytes ≡ new.bytes → length bytes ≤ new.most → Says text (answers 0 bytes)
-  says_page new bytes filled is within =
-      let most : new.most ≡ 1073741824 = ap (λ (p : PageState). p.most) filled ∙ ap (λ (p : PageState). p.most) is_blank in
-      says_whole text bytes (is ∙ ap (λ (p : PageState). p.bytes) filled ∙ ap (λ (p : PageState). p.bytes ++ text) is_blank)
-      (subst (λ (n : ℕ). length bytes ≤ n) most within)
-
-  pub why_stopped : (end : Outcome → Type 0) (fault : PageFault) → (Says text (beyond Answer) → end (beyond Answer)) → Stops page text fault →
-      Why end (cause_of (of_page fault))
-  why_stopped end fault ends stops =
-      why_overfilled end text fault (λ long. ends (says_beyond text long))
-      (subst (λ (p : PageState). Stops p text fault) is_blank stops)

@@ -6,7 +6,7 @@ use Rattle.surf_lengths.specs.Lengths.{AreLengths}
 use Rattle.surf_lengths.proofs.Positive.{lengths_positive}
 use Rattle.surf_basis.specs.Cycles.{as_loop, IsTheBasis, IsFirstCandidate, IsShortestCycle, AllSeparate}
 use Rattle.surf_basis.specs.declared.cycle.Cycle.{Cycle}
-use Rattle.surf_texts.specs.CycleTexts.{cycles_text}
+use Rattle.surf_texts.specs.MeasuredTexts.{measured_text}
 use Rattle.surf_answers.specs.CycleTexts.{found_text}
 use Rattle.surf_answers.specs.LeastBasis.{GivesBasis}
 use Rattle.surf_texts.specs.Outcome.{Outcome}
@@ -22,7 +22,7 @@ module _ (mesh : Mesh) (lengths : List ℕ) (surface : IsSurface mesh) (are : Ar
   some = choice_exists mesh lengths surface long
 
   -- a basis that is chosen whichever trees show the choice
-  pub gives_basis : (basis : List Loop) → IsTheBasis mesh lengths basis → LeastSimpleBasis mesh lengths basis → (o : Outcome) → Says (cycles_text basis) o →
+  pub gives_basis : (basis : List Loop) → IsTheBasis mesh lengths basis → LeastSimpleBasis mesh lengths basis → (o : Outcome) → Says (measured_text "cycles " "cycle " basis) o →
       GivesBasis mesh lengths o
   gives_basis basis is least o says = record {
     found = record { trees = some.0; chosen = some.1; basis = basis; is_basis = is some.0 some.1; least = least };

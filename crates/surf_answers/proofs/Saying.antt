@@ -1,16 +1,16 @@
 -- Texts on a page as answers.
-use Rattle.surf_surfaces.proofs.Common.{◌≡◌, ℕ, ◌<◌, ◌≤◌, true, false, List, [], length, refl, sym, ap, subst, arith, nat_lt, lt-ltb, le-ltb}
+use Rattle.surf_surfaces.proofs.Common.{◌≡◌, ◌∙◌, ◌++◌, ℕ, ◌<◌, ◌≤◌, Result, IsErrAnd, err_from_is_err_and, true, false, List, [], length, refl, sym, ap, subst, arith, nat_lt, lt-ltb, le-ltb}
 use Rattle.surf_base.specs.declared.limits.LimitKind.TheVariants.{Answer}
-use Rattle.surf_text.specs.Pages.{PageState, Stops}
+use Rattle.surf_text.specs.Pages.{PageState, grown, Stops}
 use Rattle.surf_text.specs.declared.page.PageFault.{PageFault}
 use Rattle.surf_text.specs.declared.page.PageFault.TheVariants.{Full, Memory}
 use Rattle.surf_texts.specs.Limits.{beyond}
-use Rattle.surf_texts.specs.Outcome.{answers}
 use Rattle.surf_texts.specs.Refusals.{cause_of, of_page}
 use Rattle.surf_answers.specs.Says.{Says}
-use Rattle.surf_answers.specs.Tells.{Why, verdict_status}
+use Rattle.surf_answers.specs.Tells.{Concludes, Why, verdict_status}
 use Rattle.surf_answers.specs.declared.answered.Answered.{Answered}
-use Rattle.surf_texts.specs.Outcome.{Outcome}
+use Rattle.surf_texts.specs.Outcome.{Outcome, answers}
+use Rattle.surf_texts.specs.declared.refusal.Refused.{Refused}
 
 -- an empty page for an answer
 abbrev pub blank : PageState
@@ -36,3 +36,22 @@ why_overfilled end text Memory long over = tt
 pub ends_as : (end : Outcome → Type 0) (a b : Answered) → a ≡ b → end (answers (verdict_status b.verdict) b.text.items) →
     end (answers (verdict_status a.verdict) a.text.items)
 ends_as end a b same said = subst (λ (x : Answered). end (answers (verdict_status x.verdict) x.text.items)) (sym same) said
+
+-- ---- a text that is put on a blank page
+
+module _ (end : Outcome → Type 0) (text : List ℕ) (page : PageState) (is_blank : page ≡ blank) (ends : (o : Outcome) → Says text o → end o) where
+  -- it was put there, and what the page then holds is the answer
+  pub page_answered : (new : PageState) → new ≡ grown page text → (a b : Answered) → a ≡ b → verdict_status b.verdict ≡ 0 → b.text.items ≡ new.bytes →
+      length b.text.items ≤ new.most → end (answers (verdict_status a.verdict) a.text.items)
+  page_answered new filled a b same yes is within =
+      let most : new.most ≡ 1073741824 = ap (λ (p : PageState). p.most) filled ∙ ap (λ (p : PageState). p.most) is_blank in
+      ends_as end a b same (subst (λ (n : ℕ). end (answers n b.text.items)) (sym yes) (ends (answers 0 b.text.items)
+      (says_whole text b.text.items (is ∙ ap (λ (p : PageState). p.bytes) filled ∙ ap (λ (p : PageState). p.bytes ++ text) is_blank)
+      (subst (λ (n : ℕ). length b.text.items ≤ n) most within))))
+
+  -- it doesn't fit, or there is no memory for it
+  pub page_stopped : (fault : PageFault) → Stops page text fault → (r : Result Answered Refused) → IsErrAnd r (λ e. e ≡ of_page fault) → Concludes end r
+  page_stopped fault stops r failed =
+      let p = err_from_is_err_and r failed in
+      rw (p.1, p.2) (why_overfilled end text fault (λ long. ends (beyond Answer) (says_beyond text long))
+      (subst (λ (p : PageState). Stops p text fault) is_blank stops))

@@ -4,7 +4,7 @@ use Rattle.surf_surfaces.specs.Mesh.{Mesh}
 use Rattle.surf_surfaces.specs.Walk.{walk_length}
 use Rattle.surf_surfaces.specs.Cycle.{IsSimpleCycle, Separation}
 use Rattle.surf_surfaces.specs.Places.{IsShortestNotNull}
-use Rattle.surf_texts.specs.CycleTexts.{cycle_line}
+use Rattle.surf_texts.specs.MeasuredTexts.{measured_line}
 use Rattle.surf_texts.specs.Outcome.{Outcome}
 use Rattle.surf_answers.specs.Found.{FoundCycle}
 use Rattle.surf_answers.specs.Says.{Says}
@@ -15,7 +15,7 @@ pub record GivesShortest (mesh : Mesh) (lengths : List ℕ) (outcome : Outcome) 
   pub found : FoundCycle mesh lengths
   pub not_null : IsShortestNotNull mesh lengths found.first.walk
   pub size : walk_length mesh lengths found.first.walk ≡ found.first.size
-  pub says : Says (cycle_line found.first.size found.first.walk) outcome
+  pub says : Says (measured_line "cycle " found.first.size found.first.walk) outcome
 
 -- Every simple cycle separates the surface.
 pub record GivesNone (mesh : Mesh) (outcome : Outcome) : Type 0 where

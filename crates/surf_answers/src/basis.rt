@@ -2,7 +2,7 @@
 ghost use Rattle.std.specs.Prelude.{◌≡◌, ◌+◌, ◌≤◌, length, map, sum, flat_map};
 ghost use Rattle.surf_basis.specs.Cycles.{as_loops};
 ghost use Rattle.surf_surfaces.specs.Surface.{edge_count, loop_count};
-ghost use Rattle.surf_texts.specs.CycleTexts.{cycles_text};
+ghost use Rattle.surf_texts.specs.MeasuredTexts.{measured_text};
 ghost use Rattle.surf_texts.specs.Fills.{Fills};
 ghost use Rattle.surf_answers.specs.CycleTexts.{cycle_found_line};
 ghost use Rattle.surf_answers.specs.LeastBasis.{GivesBasis};
@@ -34,7 +34,8 @@ pub fn basis_of(alloc: Global, mesh: &HalfMesh, lengths: &Lengths) -> Result<Ans
 
 // Puts how many cycles there are and what they total, and the line of each.
 fn put_basis(page: &mut Page, basis: &[Cycle]) -> Result<(), PageFault>
-    ensures { Fills page.old page.new (cycles_text (as_loops basis.now)) result }
+    ensures { Fills page.old page.new (measured_text "cycles " "cycle "
+        (as_loops basis.now)) result }
 {
     put_cycles_head(page, basis.len(), total_of(basis))?;
     put_cycles(page, basis)

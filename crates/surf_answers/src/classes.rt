@@ -4,7 +4,7 @@ ghost use Rattle.std.specs.Option.{option_copied};
 ghost use Rattle.surf_class.specs.Seen.{seen};
 ghost use Rattle.surf_classes.specs.Evidence.{AreClosed, IsClassEvidence, IsEvidence, joint_parity};
 ghost use Rattle.surf_surfaces.specs.Surface.{loop_count};
-ghost use Rattle.surf_answers.specs.Classes.{null_word, odd_word, GivesClass};
+ghost use Rattle.surf_answers.specs.Classes.{evidence_words, GivesClass};
 ghost use Rattle.surf_answers.specs.Tells.{Concludes};
 ghost use Rattle.surf_base.specs.declared.limits.TheConstants.{MAX_LOOPS};
 
@@ -20,8 +20,8 @@ use surf_texts::Refused;
 
 // The words of evidence of faces and of edges.
 fn kinds(second: Option<&Walk>) -> (&'static [u8], &'static [u8])
-    ensures null { result.0.now ≡ null_word (option_copied second.entry) }
-    ensures odd { result.1.now ≡ odd_word (option_copied second.entry) }
+    ensures null { result.0.now ≡ (evidence_words (option_copied second.entry)).0 }
+    ensures odd { result.1.now ≡ (evidence_words (option_copied second.entry)).1 }
 {
     match second {
         None => (b"null", b"odd"),

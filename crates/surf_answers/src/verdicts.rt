@@ -1,10 +1,11 @@
 //! Whether a certificate is valid for a surface and lengths.
 ghost use Rattle.std.specs.Prelude.{◌≡◌, ◌≢◌, ◌≤◌, ◌+◌, length};
+ghost use Rattle.surf_records.specs.declared.cert.Cert.TheVariants.{Basis, Loops};
 ghost use Rattle.surf_treecheck.specs.declared.fault.CertFault.TheVariants.{Memory};
 ghost use Rattle.surf_surfaces.specs.Surface.{edge_count, loop_count};
 ghost use Rattle.surf_texts.specs.Outcome.{answers};
 ghost use Rattle.surf_answers.specs.Tells.{Concludes};
-ghost use Rattle.surf_answers.specs.Verdicts.{JudgesBasis, JudgesCert, JudgesLoops};
+ghost use Rattle.surf_answers.specs.Verdicts.{JudgesCert};
 ghost use Rattle.surf_texts.specs.VerdictLines.{fault_line};
 ghost use Rattle.surf_base.specs.declared.limits.TheConstants.{MAX_LOOPS};
 
@@ -41,7 +42,7 @@ fn judge_loops(
     cert: &LoopCert,
 ) -> Result<Answered, Refused>
     requires { length lengths.now ≡ edge_count mesh.now }
-    ensures { Concludes (JudgesLoops mesh.now lengths.now cert.now) result }
+    ensures { Concludes (JudgesCert mesh.now lengths.now (Loops cert.now)) result }
 {
     match check_loops(alloc, mesh, lengths, cert) {
         Ok(total) => {
@@ -61,7 +62,7 @@ fn judge_basis(
 ) -> Result<Answered, Refused>
     requires lengths { length lengths.now ≡ edge_count mesh.now }
     requires few { loop_count mesh.now ≤ MAX_LOOPS }
-    ensures { Concludes (JudgesBasis mesh.now lengths.now cert.now) result }
+    ensures { Concludes (JudgesCert mesh.now lengths.now (Basis cert.now)) result }
 {
     match check_basis(alloc, mesh, lengths, cert) {
         Ok(total) => {

@@ -6,7 +6,8 @@ ghost use Rattle.surf_surfaces.specs.Walk.{IsClosed};
 ghost use Rattle.surf_cover.specs.Starts.{IsLeastInClass};
 ghost use Rattle.surf_texts.specs.Fills.{Fills};
 ghost use Rattle.surf_answers.specs.Tells.{Concludes};
-ghost use Rattle.surf_answers.specs.ShortestWalk.{GivesShortestWalk, shortest_line};
+ghost use Rattle.surf_answers.specs.ShortestWalk.{GivesShortestWalk};
+ghost use Rattle.surf_texts.specs.MeasuredTexts.{measured_line};
 
 use crate::answered::Answered;
 use crate::desk::signed_desk;
@@ -56,7 +57,8 @@ fn found_walk(
 
 // Puts the line of a walk with its length.
 fn put_shortest(page: &mut Page, found: &ClassWalk) -> Result<(), PageFault>
-    ensures { Fills page.old page.new (shortest_line found.now.length found.now.walk) result }
+    ensures { Fills page.old page.new (measured_line "shortest " found.now.length
+        found.now.walk) result }
 {
     put_line(page, b"shortest ", found.length, found.walk.vertices())
 }

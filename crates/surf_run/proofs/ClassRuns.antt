@@ -53,7 +53,7 @@ module _ (files : Files) (mesh walk cert text : List ℕ) (held : bytes_of files
   confirmed = (
     answers 0 (right_line gives.evidence),
     goes bytes reads (goes read surface (goes w has (goes text (read_again files cert text held short)
-        (goes gives.evidence evidence_is (inl (record { right = gives.right; text = refl })))))),
+        (goes gives.evidence evidence_is (inl (gives.right, refl)))))),
     (refl, refl, refl),
   )
 

@@ -6,7 +6,7 @@ use Rattle.surf_texts.specs.Outcome.{Outcome, answers, misses}
 use Rattle.surf_texts.specs.Refusals.{cause_of}
 use Rattle.surf_texts.specs.declared.refusal.Refused.{Refused}
 use Rattle.surf_texts.specs.declared.refusal.Refused.TheVariants.{Read}
-use Rattle.surf_answers.specs.Tells.{IsTold, Why, Concludes, WhyOver, ConcludesOver, verdict_status}
+use Rattle.surf_answers.specs.Tells.{IsTold, Why, Concludes, WhyOver, ConcludesOver, TakesOver, verdict_status}
 use Rattle.surf_answers.specs.declared.answered.Answered.{Answered}
 use Rattle.surf_run.specs.Steps.{Ends, stops, goes}
 
@@ -180,6 +180,26 @@ why_over_so old new holds follows (due o) is = some_so holds (λ files. follows 
 why_over_so old new holds follows unread (inl rose) = inl rose
 why_over_so old new holds follows unread (inr missing) = inr (told_so holds (λ files. follows files misses) missing)
 why_over_so old new holds follows starved is = tt
+
+-- what is so of the files that are held, each time that they were read
+pub at_once : {held there holds : Option Files} {P Q : Files → Type 0} → held ≡ holds → IfSome held P → there ≡ holds → IfSome there Q →
+    IfSome holds (λ files. P files × Q files)
+at_once {held} {there} {holds} {P} {Q} same p alike q = at holds (subst (λ (h : Option Files). IfSome h P) same p) (subst (λ (h : Option Files). IfSome h Q) alike q)
+  where
+    at : (h : Option Files) → IfSome h P → IfSome h Q → IfSome h (λ files. P files × Q files)
+    at None p q = tt
+    at (Some files) p q = (p, q)
+
+-- a step that a function takes by steps stops where one of them does
+pub refused : {T B : Type 0} {view : T → B} {holds : Option Files} {old new : ℕ} (step : Files → Result B Outcome → Type 0) (e : Refused) (r : Result T Refused) →
+    IsErrAnd r (λ x. x ≡ e) → ConcludesOver holds old new (λ files o. step files (Err o)) (Err e) → TakesOver holds old new view step r
+refused {T} {B} {view} {holds} {old} {new} step e r is why = handed (TakesOver holds old new view step) e r is why
+
+-- .. and so does a last step, on a shelf that holds the same
+pub last_stopped : {held holds : Option Files} {old now : ℕ} {whole rest : Files → Outcome → Type 0} → SoFar holds old now whole rest →
+    (new : ℕ) (e : Refused) → held ≡ holds → WhyOver held now new rest (cause_of e) → ConcludesOver holds old new whole (Err e)
+last_stopped {held} {holds} {old} {now} {whole} {rest} far new e same why =
+    far.so new (Err e) (subst (λ (h : Option Files). WhyOver h now new rest (cause_of e)) same why)
 
 -- an end that follows from another
 module _ {holds : Option Files} {old now : ℕ} {whole rest other : Files → Outcome → Type 0} (far : SoFar holds old now whole rest)

@@ -14,7 +14,7 @@ use Rattle.surf_answers.specs.Tells.{Takes, TakesOver, Why, WhyOver, ConcludesOv
 use Rattle.surf_run.specs.Cutting.{CutsOpen}
 use Rattle.surf_run.specs.Reading.{HasLengths, HasBase, HasKind}
 use Rattle.surf_run.specs.Steps.{Ends, stops, goes, AtMost}
-use Rattle.surf_run.proofs.Composing.{SoFar, begun, over, past, stopped, stopped_over, ended, follows_so, handed, some_so}
+use Rattle.surf_run.proofs.Composing.{SoFar, begun, over, past, ended, follows_so, some_so, at_once, refused}
 
 -- what comes of a surface, as steps
 abbrev pub cut_steps : Extent → OffParts → Mesh → List ℕ → ℕ → Files → Outcome → Type 0
@@ -44,55 +44,21 @@ pub in_one_step : (extent : Extent) (parts : OffParts) (mesh : Mesh) (lengths : 
     SoFar holds old now whole (cut_steps extent parts mesh lengths base) → SoFar holds old now whole (opening_steps extent parts mesh lengths base)
 in_one_step extent parts mesh lengths base far = follows_so far (λ files o. step_by_step extent parts mesh lengths base files o)
 
--- the function that takes these steps
-module _ (holds : Option Files) (old : ℕ) (extent : Extent) (mesh : Mesh) (lengths : List ℕ) (base : ℕ) where
-  abbrev Refuses : Files → Outcome → Type 0
-  Refuses files o = CutsOpen extent mesh lengths base files (Err o)
-
-  abbrev pub Tells : ℕ → Result OpenMesh Refused → Type 0
-  Tells new r = TakesOver holds old new (λ (opened : OpenMesh). opened) (CutsOpen extent mesh lengths base) r
-
-  -- a refusal that is handed on
-  refused : (new : ℕ) (e : Refused) (r : Result OpenMesh Refused) → IsErrAnd r (λ x. x ≡ e) → ConcludesOver holds old new Refuses (Err e) → Tells new r
-  refused new e r is why = handed (Tells new) e r is why
-
-  pub many_loops : (e : Refused) → Why (λ o. AtMost Loops 1024 (loop_count mesh) (Err o)) (cause_of e) → (r : Result OpenMesh Refused) → IsErrAnd r (λ x. x ≡ e) → Tells old r
-  many_loops e why r is = refused old e r is (stopped begun e why (Err e) refl)
-
-  module _ (few : AtMost Loops 1024 (loop_count mesh) (Ok tt)) where
-    pub no_lengths : (held : Option Files) (new : ℕ) → held ≡ holds → (e : Refused) → WhyOver held old new (λ files o. HasLengths lengths mesh files (Err o)) (cause_of e) →
-        (r : Result OpenMesh Refused) → IsErrAnd r (λ x. x ≡ e) → Tells new r
-    no_lengths held new same e why r is = refused new e r is (stopped_over (past begun tt few) new e same why (Err e) refl)
-
-    module _ (held : Option Files) (mid : ℕ) (values : List ℕ) (same : held ≡ holds) (went : IfSome held (λ files. HasLengths lengths mesh files (Ok values))) (later : old ≤ mid) where
-      pub no_base : (e : Refused) → Why (λ o. HasBase base mesh (Err o)) (cause_of e) → (r : Result OpenMesh Refused) → IsErrAnd r (λ x. x ≡ e) → Tells mid r
-      no_base e why r is = refused mid e r is (stopped (over (past begun tt few) values same went later) e why (Err e) refl)
-
-      module _ (vertex : ℕ) (based : HasBase base mesh (Ok vertex)) where
-        pub no_kind : (there : Option Files) (new : ℕ) → there ≡ holds → (e : Refused) → WhyOver there mid new (λ files o. HasKind extent mesh files (Err o)) (cause_of e) →
-            (r : Result OpenMesh Refused) → IsErrAnd r (λ x. x ≡ e) → Tells new r
-        no_kind there new alike e why r is =
-            refused new e r is (stopped_over (past (over (past begun tt few) values same went later) vertex based) new e alike why (Err e) refl)
-
-        module _ (there : Option Files) (new : ℕ) (kind : Kind) (alike : there ≡ holds) (told : IfSome there (λ files. HasKind extent mesh files (Ok kind))) (after : mid ≤ new) where
-          both : (h : Option Files) → IfSome h (λ files. HasLengths lengths mesh files (Ok values)) → IfSome h (λ files. HasKind extent mesh files (Ok kind)) →
-              IfSome h (λ files. HasLengths lengths mesh files (Ok values) × HasKind extent mesh files (Ok kind))
-          both None a b = tt
-          both (Some files) a b = (a, b)
-
-          -- it is opened, or its cut has too few edges, unless memory ran out
-          pub cut_open : (r : Result OpenMesh Refused) → Takes (λ (opened : OpenMesh). opened) (CutsAt kind mesh values vertex) r → Tells new r
-          cut_open (Ok opened) cuts = some_so holds (λ files is. record {
-            few = few;
-            values = values;
-            has_lengths = is.0;
-            vertex = vertex;
-            based = based;
-            kind = kind;
-            has_kind = is.1;
-            cuts = cuts;
-          })
-              (both holds (subst (λ (h : Option Files). IfSome h (λ files. HasLengths lengths mesh files (Ok values))) same went)
-              (subst (λ (h : Option Files). IfSome h (λ files. HasKind extent mesh files (Ok kind))) alike told))
-          cut_open (Err e) why =
-              ended (over (past (over (past begun tt few) values same went later) vertex based) kind alike told after) (Err e) why
+-- what the function gives that takes these steps: it is opened, or its cut has too few edges, unless memory ran out
+pub cut_open : {holds there : Option Files} {old mid new : ℕ} (extent : Extent) (mesh : Mesh) (lengths : List ℕ) (base : ℕ) → AtMost Loops 1024 (loop_count mesh) (Ok tt) →
+    (values : List ℕ) → IfSome holds (λ files. HasLengths lengths mesh files (Ok values)) → old ≤ mid → (vertex : ℕ) → HasBase base mesh (Ok vertex) →
+    (kind : Kind) → there ≡ holds → IfSome there (λ files. HasKind extent mesh files (Ok kind)) → mid ≤ new → (r : Result OpenMesh Refused) →
+    Takes (λ (opened : OpenMesh). opened) (CutsAt kind mesh values vertex) r → TakesOver holds old new (λ (opened : OpenMesh). opened) (CutsOpen extent mesh lengths base) r
+cut_open {holds} extent mesh lengths base few values went later vertex based kind alike told after (Ok opened) cuts = some_so holds (λ files is. record {
+  few = few;
+  values = values;
+  has_lengths = is.0;
+  vertex = vertex;
+  based = based;
+  kind = kind;
+  has_kind = is.1;
+  cuts = cuts;
+}) (at_once refl went alike told)
+cut_open extent mesh lengths base few values went later vertex based kind alike told after (Err e) why =
+    refused (CutsOpen extent mesh lengths base) e (Err e) refl
+    (ended (over (past (over (past begun tt few) values refl went later) vertex based) kind alike told after) (Err e) why)

@@ -10,7 +10,7 @@ use Rattle.surf_texts.specs.Cause.{Cause, due, unread, starved, misused, line_of
 use Rattle.surf_texts.specs.Limits.{limit_name}
 use Rattle.surf_texts.specs.Outcome.{answers, refuses, misses}
 use Rattle.surf_run.specs.Run.{IsOneLine}
-use Rattle.surf_texts.specs.WalkLines.{file_words, walk_line}
+use Rattle.surf_texts.specs.WalkLines.{file_words}
 use Rattle.surf_texts.specs.declared.walks.WalkFile.{WalkFile}
 use Rattle.surf_texts.specs.declared.walks.WalkFile.TheVariants.{First, Second}
 
@@ -113,7 +113,7 @@ file_none First = refl
 file_none Second = refl
 
 pub walk_is_one : (file : WalkFile) (words numbers : List ℕ) → list_any is_line_end words ≡ false →
-    IsOneLine (walk_line file words numbers)
+    IsOneLine (file_words file ++ numbered words numbers)
 walk_is_one file words numbers none = record {
   front = file_words file ++ (words ++ numbers_text numbers);
   is = three_first (file_words file) words (numbers_text numbers) (codes "\n");

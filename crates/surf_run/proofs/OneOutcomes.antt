@@ -3,7 +3,7 @@ use Rattle.surf_surfaces.proofs.Common.{◌≡◌, inl, inr, ℕ, ◌++◌, List
 use Rattle.surf_texts.specs.Outcome.{Outcome, answers, refuses, misses}
 use Rattle.surf_run.specs.Reading.{IsEvidenceText}
 use Rattle.surf_answers.specs.Summaries.{total_size, LoopsTotal, BasisTotals, CycleMeasures, GivesSummary}
-use Rattle.surf_texts.specs.SummaryTexts.{measures_text, mesh_counts, genus_text, crosscaps_text}
+use Rattle.surf_texts.specs.SummaryTexts.{measures_text, mesh_counts, kind_text}
 use Rattle.surf_disc.proofs.FaultLaws.{fault_only as disc_fault_only}
 use Rattle.surf_off.specs.Off.{OffParts}
 use Rattle.surf_texts.specs.Cause.{refused_by}
@@ -29,9 +29,8 @@ use Rattle.surf_validity.proofs.OneCert.{chosen_certs_are_one}
 use Rattle.surf_validity.proofs.OneBasis.{bases_are_one, chosen_basis_certs_are_one}
 use Rattle.surf_surfaces.proofs.walks.ShortestTreeLaws.{shortest_trees_are_one}
 use Rattle.surf_surfaces.proofs.bases.LoopsOne.{loops_are_one}
-use Rattle.surf_texts.specs.CycleTexts.{cycle_line, cycles_text}
+use Rattle.surf_texts.specs.MeasuredTexts.{measured_line, measured_text}
 use Rattle.surf_texts.specs.DistanceTexts.{distances_text}
-use Rattle.surf_texts.specs.LoopTexts.{loops_text}
 use Rattle.surf_texts.proofs.TreeTextLaws.{texts_same}
 use Rattle.surf_sew.specs.Texts.{sewn_text}
 use Rattle.surf_run.specs.Sewing.{OnSewnMesh}
@@ -39,12 +38,12 @@ use Rattle.surf_class.specs.Evidences.{evidence_in}
 use Rattle.surf_class.specs.Texts.{evidence_text}
 use Rattle.surf_classes.specs.Evidence.{Evidence, AreClosed}
 use Rattle.surf_classes.proofs.ChosenEvidence.{class_evidence_is_one}
-use Rattle.surf_answers.specs.Classes.{null_word, odd_word, GivesClass}
+use Rattle.surf_answers.specs.Classes.{evidence_words, GivesClass}
 use Rattle.surf_texts.specs.EvidenceLines.{wrong_line, evidence_cause}
 use Rattle.surf_answers.specs.Confirming.{JudgesEvidence}
 use Rattle.surf_classes.proofs.ChosenWalks.{chosen_walk_is_one}
-use Rattle.surf_answers.specs.ShortestWalk.{shortest_line, GivesShortestWalk}
-use Rattle.surf_run.proofs.StepLaws.{HasOneOutcome, IsOne, one_end, one_result, one_surface_of}
+use Rattle.surf_answers.specs.ShortestWalk.{GivesShortestWalk}
+use Rattle.surf_run.proofs.StepLaws.{HasOneOutcome, IsOne, one_told, one_end, one_result, one_surface_of}
 use Rattle.surf_answers.specs.Distances.{GivesDistances}
 use Rattle.surf_answers.specs.LeastLoops.{GivesLoops}
 use Rattle.surf_answers.specs.LeastBasis.{GivesBasis}
@@ -57,24 +56,22 @@ use Rattle.surf_answers.specs.Certificates.{GivesLoopCert, GivesBasisCert}
 pub one_info : (mesh : Mesh) → HasOneOutcome (Informs mesh)
 one_info mesh o p (inl x) (inl y) =
     let same : x.genus ≡ y.genus = omega (arith, x.twice, y.twice) in
-    x.text ∙ ap (λ n. answers 0 (mesh_counts mesh ++ genus_text (characteristic mesh) n)) same ∙ sym y.text
+    x.text ∙ ap (λ n. answers 0 (mesh_counts mesh ++ kind_text "\ngenus " (characteristic mesh) n)) same ∙ sym y.text
 one_info mesh o p (inl x) (inr y) = absurd (y.one_sided x.two_sided)
 one_info mesh o p (inr x) (inl y) = absurd (x.one_sided y.two_sided)
 one_info mesh o p (inr x) (inr y) =
     let same : x.crosscaps ≡ y.crosscaps = omega (arith, x.count, y.count) in
-    x.text ∙ ap (λ n. answers 0 (mesh_counts mesh ++ crosscaps_text (characteristic mesh) n)) same ∙ sym y.text
+    x.text ∙ ap (λ n. answers 0 (mesh_counts mesh ++ kind_text "\ncrosscaps " (characteristic mesh) n)) same ∙ sym y.text
 
 -- a mesh that is no disc has one first fault
 one_no_disc : (mesh : Mesh) → HasOneOutcome (SaysNoDisc mesh)
-one_no_disc mesh o p x y =
-    x.text ∙ ap (λ fault. answers 1 (no_line fault)) (disc_faults_are_one mesh x.fault y.fault x.isnt_memory y.isnt_memory x.is_fault y.is_fault)
-    ∙ sym y.text
+one_no_disc mesh = one_told (disc_faults_are_one mesh)
 
 -- a disc has no fault
 pub one_judgement : (mesh : Mesh) → HasOneOutcome (JudgesDisc mesh)
-one_judgement mesh o p (inl x) (inl y) = x.text ∙ sym y.text
-one_judgement mesh o p (inl x) (inr y) = absurd (y.isnt_memory (disc_fault_only mesh y.fault y.is_fault x.is_disc))
-one_judgement mesh o p (inr x) (inl y) = absurd (x.isnt_memory (disc_fault_only mesh x.fault x.is_fault y.is_disc))
+one_judgement mesh o p (inl x) (inl y) = x.1 ∙ sym y.1
+one_judgement mesh o p (inl x) (inr y) = absurd (y.isnt_memory (disc_fault_only mesh y.fault y.is_fault x.0))
+one_judgement mesh o p (inr x) (inl y) = absurd (x.isnt_memory (disc_fault_only mesh x.fault x.is_fault y.0))
 one_judgement mesh o p (inr x) (inr y) = one_no_disc mesh o p x y
 
 -- one text is said in one way
@@ -92,8 +89,8 @@ module _ (mesh : Mesh) (lengths : List ℕ) (surface : IsSurface mesh) (long : A
 
   pub one_system : (base : ℕ) → HasOneOutcome (GivesLoops mesh lengths base)
   one_system base o p x y =
-      says_same (loops_text (loops_at mesh lengths base x.found.trees)) (loops_text (loops_at mesh lengths base y.found.trees)) o p
-      (ap loops_text (loops_are_one mesh lengths base x.found.trees y.found.trees surface long x.found.chosen y.found.chosen)) x.says y.says
+      says_same (measured_text "loops " "loop " (loops_at mesh lengths base x.found.trees)) (measured_text "loops " "loop " (loops_at mesh lengths base y.found.trees)) o p
+      (ap (measured_text "loops " "loop ") (loops_are_one mesh lengths base x.found.trees y.found.trees surface long x.found.chosen y.found.chosen)) x.says y.says
 
   pub one_loop_cert : (base : ℕ) → HasOneOutcome (GivesLoopCert mesh lengths base)
   one_loop_cert base o p x y =
@@ -102,13 +99,13 @@ module _ (mesh : Mesh) (lengths : List ℕ) (surface : IsSurface mesh) (long : A
 
   pub one_basis : HasOneOutcome (GivesBasis mesh lengths)
   one_basis o p x y =
-      says_same (cycles_text x.found.basis) (cycles_text y.found.basis) o p
-      (ap cycles_text (bases_are_one mesh lengths x.found.trees y.found.trees surface long x.found.chosen y.found.chosen x.found.basis y.found.basis x.found.is_basis y.found.is_basis)) x.says y.says
+      says_same (measured_text "cycles " "cycle " x.found.basis) (measured_text "cycles " "cycle " y.found.basis) o p
+      (ap (measured_text "cycles " "cycle ") (bases_are_one mesh lengths x.found.trees y.found.trees surface long x.found.chosen y.found.chosen x.found.basis y.found.basis x.found.is_basis y.found.is_basis)) x.says y.says
 
   pub one_cycle : HasOneOutcome (GivesCycle mesh lengths)
   one_cycle o p (inl x) (inl y) =
-      says_same (cycle_line x.found.first.size x.found.first.walk) (cycle_line y.found.first.size y.found.first.walk) o p
-      (ap (λ (c : Loop). cycle_line c.size c.walk) (firsts_are_one mesh lengths x.found.trees y.found.trees surface long x.found.chosen y.found.chosen x.found.first y.found.first x.found.rest y.found.rest x.found.is_first y.found.is_first))
+      says_same (measured_line "cycle " x.found.first.size x.found.first.walk) (measured_line "cycle " y.found.first.size y.found.first.walk) o p
+      (ap (λ (c : Loop). measured_line "cycle " c.size c.walk) (firsts_are_one mesh lengths x.found.trees y.found.trees surface long x.found.chosen y.found.chosen x.found.first y.found.first x.found.rest y.found.rest x.found.is_first y.found.is_first))
       x.says y.says
   one_cycle o p (inl x) (inr y) =
       absurd (x.found.shortest.nonseparating.separates_not (y.separate x.found.first.walk x.found.shortest.nonseparating.simple))
@@ -129,12 +126,12 @@ one_verdict mesh lengths (Loops cert) o p (inl x) (inl y) = x.text ∙ sym y.tex
 one_verdict mesh lengths (Loops cert) o p (inl x) (inr y) = absurd (no_loop_fault mesh lengths cert x.valid y.fault y.isnt_memory y.is_fault)
 one_verdict mesh lengths (Loops cert) o p (inr x) (inl y) = absurd (no_loop_fault mesh lengths cert y.valid x.fault x.isnt_memory x.is_fault)
 one_verdict mesh lengths (Loops cert) o p (inr x) (inr y) =
-    x.text ∙ ap (λ fault. answers 1 (fault_line fault)) (one_loop_fault mesh lengths cert x.fault y.fault x.is_fault y.is_fault x.isnt_memory y.isnt_memory) ∙ sym y.text
+    one_told (λ a b some other is too. one_loop_fault mesh lengths cert a b is too some other) o p x y
 one_verdict mesh lengths (certs.Basis cert) o p (inl x) (inl y) = x.text ∙ sym y.text
 one_verdict mesh lengths (certs.Basis cert) o p (inl x) (inr y) = absurd (no_basis_fault mesh lengths cert x.valid y.fault y.isnt_memory y.is_fault)
 one_verdict mesh lengths (certs.Basis cert) o p (inr x) (inl y) = absurd (no_basis_fault mesh lengths cert y.valid x.fault x.isnt_memory x.is_fault)
 one_verdict mesh lengths (certs.Basis cert) o p (inr x) (inr y) =
-    x.text ∙ ap (λ fault. answers 1 (fault_line fault)) (one_basis_fault mesh lengths cert x.fault y.fault x.is_fault y.is_fault x.isnt_memory y.isnt_memory) ∙ sym y.text
+    one_told (λ a b some other is too. one_basis_fault mesh lengths cert a b is too some other) o p x y
 
 -- a disc has no fault, and neither has a surface
 pub one_sewing : (read : OffParts × Mesh) (origins : List ℕ) (mesh : Mesh) → HasOneOutcome (OnSewnMesh read origins mesh)
@@ -149,30 +146,27 @@ pub one_class : (mesh : Mesh) (walk : List ℕ) (other : Option (List ℕ)) → 
     HasOneOutcome (GivesClass mesh walk other)
 one_class mesh walk other surface closed o p x y =
     let one = class_evidence_is_one mesh surface walk other closed in
-    says_same (evidence_text (null_word other) (odd_word other) x.evidence) (evidence_text (null_word other) (odd_word other) y.evidence) o p
-    (ap (evidence_text (null_word other) (odd_word other)) (one.2 x.evidence x.chosen ∙ sym (one.2 y.evidence y.chosen))) x.says y.says
+    says_same (evidence_text (evidence_words other).0 (evidence_words other).1 x.evidence) (evidence_text (evidence_words other).0 (evidence_words other).1 y.evidence) o p
+    (ap (evidence_text (evidence_words other).0 (evidence_words other).1) (one.2 x.evidence x.chosen ∙ sym (one.2 y.evidence y.chosen))) x.says y.says
 
 pub one_evidence_text : (bytes : List ℕ) → IsOne (IsEvidenceText bytes)
 one_evidence_text bytes = one_result (refused_by evidence_cause (evidence_in bytes))
 
 -- right evidence has no fault
 pub one_judged_evidence : (mesh : Mesh) (walk : List ℕ) (evidence : Evidence) → HasOneOutcome (JudgesEvidence mesh walk evidence)
-one_judged_evidence mesh walk evidence o p (inl x) (inl y) = x.text ∙ sym y.text
-one_judged_evidence mesh walk evidence o p (inl x) (inr y) = absurd (y.excludes x.right)
-one_judged_evidence mesh walk evidence o p (inr x) (inl y) = absurd (x.excludes y.right)
+one_judged_evidence mesh walk evidence o p (inl x) (inl y) = x.1 ∙ sym y.1
+one_judged_evidence mesh walk evidence o p (inl x) (inr y) = absurd (y.0 x.0)
+one_judged_evidence mesh walk evidence o p (inr x) (inl y) = absurd (x.0 y.0)
 one_judged_evidence mesh walk evidence o p (inr x) (inr y) =
-    x.text
-    ∙ ap (λ fault. answers 1 (wrong_line fault))
-    (class_faults_are_one mesh (parity mesh walk) evidence x.fault y.fault x.isnt_memory y.isnt_memory x.is_fault y.is_fault)
-    ∙ sym y.text
+    one_told (class_faults_are_one mesh (parity mesh walk) evidence) o p x.1 y.1
 
 -- there is one walk that is chosen
 pub one_shortest : (mesh : Mesh) (lengths walk : List ℕ) → IsSurface mesh → ArePositive mesh lengths → IsClosed mesh walk →
     HasOneOutcome (GivesShortestWalk mesh lengths walk)
 one_shortest mesh lengths walk surface positive closed o p x y =
     let one = chosen_walk_is_one mesh lengths walk surface positive closed in
-    says_same (shortest_line (walk_length mesh lengths x.found) x.found) (shortest_line (walk_length mesh lengths y.found) y.found) o p
-    (ap (λ (w : List ℕ). shortest_line (walk_length mesh lengths w) w) (one.2 x.found x.chosen ∙ sym (one.2 y.found y.chosen))) x.says y.says
+    says_same (measured_line "shortest " (walk_length mesh lengths x.found) x.found) (measured_line "shortest " (walk_length mesh lengths y.found) y.found) o p
+    (ap (λ (w : List ℕ). measured_line "shortest " (walk_length mesh lengths w) w) (one.2 x.found x.chosen ∙ sym (one.2 y.found y.chosen))) x.says y.says
 
 -- ---- what is found on a surface that is made
 
@@ -181,30 +175,10 @@ text_in (answers s t) = t
 text_in (refuses s l) = l
 text_in misses = []
 
-one_loops_total : (mesh : Mesh) (lengths : List ℕ) (n m : ℕ) → IsSurface mesh → ArePositive mesh lengths → LoopsTotal mesh lengths n →
-    LoopsTotal mesh lengths m → n ≡ m
-one_loops_total mesh lengths n m surface long x y =
-    x.is ∙ ap total_size (loops_are_one mesh lengths 0 x.found.trees y.found.trees surface long x.found.chosen y.found.chosen) ∙ sym y.is
-
-one_basis_total : (mesh : Mesh) (lengths : List ℕ) (n m : ℕ) → IsSurface mesh → ArePositive mesh lengths → BasisTotals mesh lengths n →
-    BasisTotals mesh lengths m → n ≡ m
-one_basis_total mesh lengths n m surface long x y =
-    x.is ∙ ap total_size (bases_are_one mesh lengths x.found.trees y.found.trees surface long x.found.chosen y.found.chosen x.found.basis y.found.basis x.found.is_basis y.found.is_basis) ∙ sym y.is
-
-one_cycle_measure : (mesh : Mesh) (lengths : List ℕ) (n m : ℕ) → IsSurface mesh → ArePositive mesh lengths → CycleMeasures mesh lengths n →
-    CycleMeasures mesh lengths m → n ≡ m
-one_cycle_measure mesh lengths n m surface long x y =
-    x.is
-    ∙ ap (λ (c : Loop). walk_length mesh lengths c.walk)
-    (firsts_are_one mesh lengths x.found.trees y.found.trees surface long x.found.chosen y.found.chosen x.found.first y.found.first x.found.rest y.found.rest x.found.is_first y.found.is_first)
-    ∙ sym y.is
-
 pub one_summary : (mesh : Mesh) (lengths : List ℕ) → IsSurface mesh → ArePositive mesh lengths → HasOneOutcome (GivesSummary mesh lengths)
 one_summary mesh lengths surface long o p x y =
     let facts : x.facts ≡ y.facts = ap text_in (one_info mesh (answers 0 x.facts) (answers 0 y.facts) x.informs y.informs) in
-    x.text
-    ∙ ap (λ (t : List ℕ). answers 0 (t ++ measures_text x.loops x.basis x.cycle)) facts
-    ∙ ap (λ n. answers 0 (y.facts ++ measures_text n x.basis x.cycle)) (one_loops_total mesh lengths x.loops y.loops surface long x.loops_total y.loops_total)
-    ∙ ap (λ n. answers 0 (y.facts ++ measures_text y.loops n x.cycle)) (one_basis_total mesh lengths x.basis y.basis surface long x.basis_totals y.basis_totals)
-    ∙ ap (λ n. answers 0 (y.facts ++ measures_text y.loops y.basis n)) (one_cycle_measure mesh lengths x.cycle y.cycle surface long x.cycle_measures y.cycle_measures)
-    ∙ sym y.text
+    let loops = loops_are_one mesh lengths 0 x.loops.trees y.loops.trees surface long x.loops.chosen y.loops.chosen in
+    let basis : x.basis.basis ≡ y.basis.basis = bases_are_one mesh lengths x.basis.trees y.basis.trees surface long x.basis.chosen y.basis.chosen x.basis.basis y.basis.basis x.basis.is_basis y.basis.is_basis in
+    let cycle : x.cycle.first ≡ y.cycle.first = firsts_are_one mesh lengths x.cycle.trees y.cycle.trees surface long x.cycle.chosen y.cycle.chosen x.cycle.first y.cycle.first x.cycle.rest y.cycle.rest x.cycle.is_first y.cycle.is_first in
+    x.text ∙ rw (facts, loops, basis, cycle) (sym y.text)

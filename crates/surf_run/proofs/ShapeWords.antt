@@ -5,7 +5,7 @@ use Rattle.surf_gen.specs.Made.{made_length, made_values}
 use Rattle.surf_tori.specs.Chain.{chain}
 use Rattle.surf_tori.proofs.ChainLaws.{chains_are_surfaces}
 use Rattle.surf_tori.proofs.TorusLaws.{tori_are_surfaces}
-use Rattle.surf_words.specs.Shapes.{Shape, IsShape, mesh_of, torus_shape, chain_shape, torus_named, chain_named}
+use Rattle.surf_words.specs.Shapes.{Shape, IsShape, mesh_of, shape_from, shape_named}
 use Rattle.surf_words.specs.Words.{Request, help, version, try_shape, word_number, tried, torus_of, chain_of, Row, row, command_table, fits, given_for, request_in, request_of}
 use Rattle.surf_text.specs.Text.{words_of}
 use Prim.Native.String.{String as Literal}
@@ -22,7 +22,7 @@ either : (b : Bool) (x y : Option Request) → IsWellShaped x → IsWellShaped y
 either true x y a b = a
 either false x y a b = b
 
-torus_shaped : (a b : ℕ) → IfSome (torus_shape a b) IsShape
+torus_shaped : (a b : ℕ) → IfSome (shape_from 3 1 a b) IsShape
 torus_shaped a b = elim (cases_Bool (nat_le 3 a && nat_le 3 b)) [
   | inl good ↦
       let parts = and_parts (nat_le 3 a) (nat_le 3 b) good in
@@ -32,7 +32,7 @@ torus_shaped a b = elim (cases_Bool (nat_le 3 a && nat_le 3 b)) [
   | inr bad ↦ rw bad tt
 ]
 
-chain_shaped : (g a b : ℕ) → IfSome (chain_shape g a b) IsShape
+chain_shaped : (g a b : ℕ) → IfSome (shape_from 4 g a b) IsShape
 chain_shaped g a b = elim (cases_Bool (nat_le 1 g && (nat_le 4 a && nat_le 4 b))) [
   | inl good ↦
       let parts = and_parts (nat_le 1 g) (nat_le 4 a && nat_le 4 b) good in
@@ -49,12 +49,12 @@ chain_shaped g a b = elim (cases_Bool (nat_le 1 g && (nat_le 4 a && nat_le 4 b))
   | inr bad ↦ rw bad tt
 ]
 
-torus_is : (rows columns : Option ℕ) → IfSome (torus_named rows columns) IsShape
+torus_is : (rows columns : Option ℕ) → IfSome (shape_named 3 (Some 1) rows columns) IsShape
 torus_is None columns = tt
 torus_is (Some a) None = tt
 torus_is (Some a) (Some b) = torus_shaped a b
 
-chain_is : (tori rows columns : Option ℕ) → IfSome (chain_named tori rows columns) IsShape
+chain_is : (tori rows columns : Option ℕ) → IfSome (shape_named 4 tori rows columns) IsShape
 chain_is None rows columns = tt
 chain_is (Some g) None columns = tt
 chain_is (Some g) (Some a) None = tt

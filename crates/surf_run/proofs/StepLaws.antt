@@ -1,5 +1,5 @@
 -- Steps, here and there: what one gives here it gives there, and there it gives one thing.
-use Rattle.surf_surfaces.proofs.Common.{◌≡◌, inl, inr, ℕ, Bool, true, false, List, [], Result, Ok, Err, refl, sym, ◌∙◌, ap, subst, arith, ◌∷◌, if◌then◌else◌, codes, replicate, Mesh, edge_count, IsSurface, AllByRecursion, bytes_eq}
+use Rattle.surf_surfaces.proofs.Common.{◌≡◌, ◌≢◌, inl, inr, ℕ, Bool, true, false, List, [], Result, Ok, Err, refl, sym, ◌∙◌, ap, subst, arith, ◌∷◌, if◌then◌else◌, codes, replicate, Mesh, edge_count, IsSurface, AllByRecursion, bytes_eq}
 use Rattle.surf_base.specs.Outside.{Files, bytes_of}
 use Rattle.surf_texts.specs.LengthLines.{length_cause}
 use Rattle.surf_texts.specs.Outcome.{Outcome}
@@ -7,11 +7,11 @@ use Rattle.surf_run.specs.Steps.{Ends, stops, goes, AtMost, and_then}
 use Rattle.surf_run.specs.Reading.{Reads, within_text, IsMeshText, EndsInFault, IsSurfaceOf, IsSurfaceText, lengths_for, HasLengths, HasBase, walk_named, HasWalk, HasKind, kind_named}
 use Rattle.surf_check.proofs.FaultLaws.{fault_only}
 use Rattle.surf_off.specs.Off.{OffParts, off_of}
-use Rattle.surf_texts.specs.Cause.{outcome_of, refused_by}
+use Rattle.surf_texts.specs.Cause.{refused_by}
 use Rattle.surf_texts.specs.MeshLines.{off_cause}
 use Rattle.surf_run.proofs.OneFaults.{surface_faults_are_one}
 use Rattle.surf_base.specs.declared.limits.LimitKind.{LimitKind}
-use Rattle.surf_texts.specs.SurfaceLines.{surface_cause}
+use Rattle.surf_texts.specs.Faults.{TellsFault}
 use Rattle.surf_texts.specs.declared.walks.WalkFile.{WalkFile}
 use Rattle.surf_class.specs.Points.{points_in}
 use Rattle.surf_cutter.specs.Kinds.{through}
@@ -47,6 +47,12 @@ one_result {A} x = λ r s first second. subst (λ (t : Result A Outcome). Agree 
 -- an end with a stated outcome has one
 pub one_outcome : (x : Outcome) → HasOneOutcome (λ o. o ≡ x)
 one_outcome x = λ o p first second. first ∙ sym second
+
+-- where a first fault is one, so is what tells it
+pub one_told : {F : Type 0} {memory : F} {IsFault : F → Type 0} {told : F → Outcome} →
+    ((a b : F) → a ≢ memory → b ≢ memory → IsFault a → IsFault b → a ≡ b) → HasOneOutcome (TellsFault memory IsFault told)
+one_told {F} {memory} {IsFault} {told} one = λ o p x y.
+    x.is ∙ ap told (one x.fault y.fault x.isnt_memory y.isnt_memory x.is_fault y.is_fault) ∙ sym y.is
 
 -- where each step has one result, so has what comes of them
 pub one_end : {A : Type 0} {first : Result A Outcome → Type 0} {second : A → Outcome → Type 0} →
@@ -101,10 +107,8 @@ pub one_mesh_text : (bytes : List ℕ) → IsOne (IsMeshText bytes)
 one_mesh_text bytes = one_result (refused_by off_cause (off_of bytes))
 
 -- a surface that isn't one has one first fault
-one_fault_of : (mesh : Mesh) (o p : Outcome) → EndsInFault mesh o → EndsInFault mesh p → o ≡ p
-one_fault_of mesh o p x y =
-    x.is ∙ ap (λ fault. outcome_of (surface_cause fault)) (surface_faults_are_one mesh x.fault y.fault x.isnt_memory y.isnt_memory x.is_fault y.is_fault)
-    ∙ sym y.is
+one_fault_of : (mesh : Mesh) → HasOneOutcome (EndsInFault mesh)
+one_fault_of mesh = one_told (surface_faults_are_one mesh)
 
 -- a surface has no fault
 no_fault : (mesh : Mesh) (o : Outcome) → IsSurface mesh → EndsInFault mesh o → ⊥

@@ -11,8 +11,8 @@ use Rattle.surf_records.proofs.ChosenFits.{AreNumbers, chosen_loops_fit, chosen_
 use Rattle.surf_cert.proofs.ChosenReread.{chosen_loops_again, chosen_basis_again}
 use Rattle.surf_texts.specs.Cause.{Cause, refused_by}
 use Rattle.surf_texts.specs.CertLines.{cert_cause}
-use Rattle.surf_texts.specs.CycleTexts.{cycles_text}
-use Rattle.surf_texts.specs.LoopTexts.{loops_text}
+use Rattle.surf_texts.specs.MeasuredTexts.{measured_text}
+use Rattle.surf_texts.specs.CountLines.{count_line}
 use Rattle.surf_texts.specs.MeshLines.{off_cause}
 use Rattle.surf_surfaces.proofs.walks.ShortestWalkLaws.{first_of_basis_is_shortest_not_null}
 use Rattle.surf_lengths.specs.Lengths.{IsLength, AreLengths}
@@ -33,7 +33,6 @@ use Rattle.surf_answers.specs.Says.{Says}
 use Rattle.surf_answers.specs.Summaries.{total_size}
 use Rattle.surf_run.specs.Steps.{goes}
 use Rattle.surf_run.specs.TwoRuns.{LoopsPass, BasisPasses, CertifiedLoopsPass, CertifiedBasesPass}
-use Rattle.surf_texts.specs.VerdictLines.{loops_line, basis_line}
 use Rattle.surf_words.specs.Words.{word_number, loops as loops_request, certify_loops, request_of}
 use Rattle.surf_run.proofs.CertSizes.{loop_text_short, basis_text_short}
 use Rattle.surf_run.proofs.CycleLaws.{few_loops}
@@ -109,7 +108,7 @@ module _ (files : Files) (mesh lengths cert text : List ℕ) (held : bytes_of fi
     abbrev the_loops : List Loop
     the_loops = loops_at read.1 values vertex gives.found.trees
 
-    loops_said : (outcome : Outcome) → Says (loops_text the_loops) outcome → Leads (codes "loops" ∷ mesh ∷ lengths ∷ base ∷ []) files outcome
+    loops_said : (outcome : Outcome) → Says (measured_text "loops " "loop " the_loops) outcome → Leads (codes "loops" ∷ mesh ∷ lengths ∷ base ∷ []) files outcome
     unfolding Leads request_of
     loops_said outcome says =
         subst (λ (x : Option ℕ). OnRequest (option_map (loops_request mesh lengths) x) files outcome) (sym is_base)
@@ -118,7 +117,7 @@ module _ (files : Files) (mesh lengths cert text : List ℕ) (held : bytes_of fi
           says = says;
         }))))))
 
-    loops_pass : Answer (codes "check" ∷ mesh ∷ lengths ∷ cert ∷ []) files 0 (loops_line (total_size the_loops)) []
+    loops_pass : Answer (codes "check" ∷ mesh ∷ lengths ∷ cert ∷ []) files 0 (count_line "valid loops " (total_size the_loops)) []
     unfolding Leads request_of
     loops_pass =
         let c = chosen_cert read.1 gives.found.trees in
@@ -127,13 +126,13 @@ module _ (files : Files) (mesh lengths cert text : List ℕ) (held : bytes_of fi
         let least = valid_loops_are_least read.1 values c surface.1 loops_long again.1 in
         let cert_is : Ok (Loops c) ≡ refused_by cert_cause (parsed_cert text) =
         sym (ap (λ (t : List ℕ). refused_by cert_cause (parsed_cert t)) text_is ∙ ap (refused_by cert_cause) again.0) in (
-          answers 0 (loops_line (total_size the_loops)),
+          answers 0 (count_line "valid loops " (total_size the_loops)),
           goes bytes reads (goes read surface (goes tt few (goes values measured
               (goes text (read_again files cert text held loops_short) (goes (Loops c) cert_is (goes tt (omega arith) (inl (record {
                 valid = again.1;
                 least = least.0;
                 least_in_order = valid_loops_are_least_in_order read.1 values c surface.1 loops_long again.1;
-                text = ap (λ n. answers 0 (loops_line n)) (sym (least.1 ∙ chosen_loops_total read.1 values vertex gives.found.trees surface.1 loops_long gives.found.chosen));
+                text = ap (λ n. answers 0 (count_line "valid loops " n)) (sym (least.1 ∙ chosen_loops_total read.1 values vertex gives.found.trees surface.1 loops_long gives.found.chosen));
               })))))))),
           (refl, refl, refl),
         )
@@ -170,7 +169,7 @@ module _ (files : Files) (mesh lengths cert text : List ℕ) (held : bytes_of fi
         gives.found.is_basis)
         few (omega (arith, trees, vertices)) (omega (arith, depths, faces)) (omega (arith, full, loops)) gives.found.least.simple)
 
-    basis_said : (outcome : Outcome) → Says (cycles_text gives.found.basis) outcome → Leads (codes "basis" ∷ mesh ∷ lengths ∷ []) files outcome
+    basis_said : (outcome : Outcome) → Says (measured_text "cycles " "cycle " gives.found.basis) outcome → Leads (codes "basis" ∷ mesh ∷ lengths ∷ []) files outcome
     unfolding Leads request_of
     basis_said outcome says =
         goes bytes reads (goes read is_surface (goes tt few_loops_are (goes tt (let small = few in omega (arith, small)) (goes values measured (record {
@@ -181,7 +180,7 @@ module _ (files : Files) (mesh lengths cert text : List ℕ) (held : bytes_of fi
           says = says;
         })))))
 
-    basis_pass : Answer (codes "check" ∷ mesh ∷ lengths ∷ cert ∷ []) files 0 (basis_line (total_size gives.found.basis)) []
+    basis_pass : Answer (codes "check" ∷ mesh ∷ lengths ∷ cert ∷ []) files 0 (count_line "valid basis " (total_size gives.found.basis)) []
     unfolding Leads request_of
     basis_pass =
         let c = basis_cert_of read.1 gives.found.trees gives.found.basis in
@@ -190,14 +189,14 @@ module _ (files : Files) (mesh lengths cert text : List ℕ) (held : bytes_of fi
         gives.found.is_basis in
         let cert_is : Ok (Basis c) ≡ refused_by cert_cause (parsed_cert text) =
         sym (ap (λ (t : List ℕ). refused_by cert_cause (parsed_cert t)) text_is ∙ ap (refused_by cert_cause) again.0) in (
-          answers 0 (basis_line (total_size gives.found.basis)),
+          answers 0 (count_line "valid basis " (total_size gives.found.basis)),
           goes bytes reads (goes read is_surface (goes tt few_loops_are (goes values measured
               (goes text (read_again files cert text held basis_short) (goes (Basis c) cert_is (goes tt few (inl (record {
                 valid = again.1;
                 least = valid_bases_are_least m values c surface basis_long again.1;
                 least_in_order = valid_bases_are_least_in_order m values c surface basis_long again.1;
                 shortest = valid_bases_measure_shortest m values c surface basis_long again.1;
-                text = ap (λ n. answers 0 (basis_line n)) (sym (chosen_basis_total m values gives.found.trees gives.found.basis surface basis_long gives.found.chosen gives.found.is_basis));
+                text = ap (λ n. answers 0 (count_line "valid basis " n)) (sym (chosen_basis_total m values gives.found.trees gives.found.basis surface basis_long gives.found.chosen gives.found.is_basis));
               })))))))),
           (refl, refl, refl),
         )

@@ -2,10 +2,10 @@
 use Rattle.std.specs.Prelude.{◌≡◌, ◌*◌, ◌^◌, ℕ, List, [], ◌∷◌, ◌++◌, Option, Some, None, if◌then◌else◌, codes}
 use Rattle.std.specs.Str.{bytes_eq}
 use Rattle.surf_base.specs.Outside.{Files}
-use Rattle.surf_base.specs.declared.limits.LimitKind.TheVariants.{Vertices, Faces, Loops, BasisVertices}
+use Rattle.surf_base.specs.declared.limits.LimitKind.TheVariants.{Loops, BasisVertices}
 use Rattle.surf_base.specs.declared.limits.LimitKind.TheVariants.{CertificateVertices, CoverLoops, CoverNodes}
 use Rattle.surf_gen.specs.Made.{made_values}
-use Rattle.surf_surfaces.specs.Surface.{face_count, loop_count}
+use Rattle.surf_surfaces.specs.Surface.{loop_count}
 use Rattle.surf_words.specs.Shapes.{mesh_of}
 use Rattle.surf_words.specs.Words.{Request, help, version, info, dist, loops, basis, cycle, cut, sew, disc, class, same}
 use Rattle.surf_words.specs.Words.{confirm, shortest, certify_loops, certify_basis, check, lengths, gen_shape, try_shape}
@@ -28,7 +28,8 @@ use Rattle.surf_answers.specs.ShortestCycle.{GivesCycle}
 use Rattle.surf_answers.specs.Summaries.{GivesSummary}
 use Rattle.surf_answers.specs.ShortestWalk.{GivesShortestWalk}
 use Rattle.surf_answers.specs.Verdicts.{JudgesCert}
-use Rattle.surf_run.specs.Reading.{Reads, IsMeshText, IsSurfaceText, HasLengths, HasBase, HasWalk, IsCertText}
+use Rattle.surf_run.specs.Fronts.{OnText, OnSurface, OnFewLoops, OnMeasured, OnBased, OnSmall, OnMesh}
+use Rattle.surf_run.specs.Reading.{Reads, HasLengths, HasBase, HasWalk, IsCertText}
 use Rattle.surf_run.specs.Reading.{tree_count, HasKind, IsEvidenceText}
 use Rattle.surf_run.specs.Sewing.{HasOrigins, IsSewn, OnSewnMesh}
 use Rattle.surf_run.specs.Steps.{◌>>=◌, ◌>>◌, AtMost}
@@ -38,123 +39,57 @@ abbrev pub OnRequest : Option Request → Files → Outcome → Type 0
 OnRequest None files = λ outcome. outcome ≡ misused
 OnRequest (Some help) files = λ outcome. outcome ≡ answers 0 help_text
 OnRequest (Some version) files = λ outcome. outcome ≡ answers 0 version_text
-OnRequest (Some (info mesh)) files = do
-  bytes ← Reads mesh files
-  read ← IsSurfaceText bytes
-  Informs read.1
-OnRequest (Some (dist mesh word base)) files = do
-  bytes ← Reads mesh files
-  read ← IsSurfaceText bytes
+OnRequest (Some (info mesh)) files = OnSurface mesh files (λ read. Informs read.1)
+OnRequest (Some (dist mesh word base)) files = OnSurface mesh files (λ read. do
   values ← HasLengths word read.1 files
   vertex ← HasBase base read.1
-  GivesDistances read.1 values vertex
-OnRequest (Some (loops mesh word base)) files = do
-  bytes ← Reads mesh files
-  read ← IsSurfaceText bytes
-  AtMost Loops 1024 (loop_count read.1)
-  values ← HasLengths word read.1 files
-  vertex ← HasBase base read.1
-  GivesLoops read.1 values vertex
-OnRequest (Some (basis mesh word)) files = do
-  bytes ← Reads mesh files
-  read ← IsSurfaceText bytes
-  AtMost Loops 1024 (loop_count read.1)
-  AtMost BasisVertices 20000 read.1.vertices
-  values ← HasLengths word read.1 files
-  GivesBasis read.1 values
-OnRequest (Some (cycle mesh word)) files = do
-  bytes ← Reads mesh files
-  read ← IsSurfaceText bytes
-  AtMost Loops 1024 (loop_count read.1)
-  AtMost BasisVertices 20000 read.1.vertices
-  values ← HasLengths word read.1 files
-  GivesCycle read.1 values
-OnRequest (Some (cut extent mesh word base)) files = do
-  bytes ← Reads mesh files
-  read ← IsSurfaceText bytes
-  AtMost Loops 1024 (loop_count read.1)
-  values ← HasLengths word read.1 files
-  vertex ← HasBase base read.1
+  GivesDistances read.1 values vertex)
+OnRequest (Some (loops mesh word base)) files = OnBased mesh word base files (λ read. GivesLoops read.1)
+OnRequest (Some (basis mesh word)) files = OnSmall BasisVertices 20000 mesh word files (λ read. GivesBasis read.1)
+OnRequest (Some (cycle mesh word)) files = OnSmall BasisVertices 20000 mesh word files (λ read. GivesCycle read.1)
+OnRequest (Some (cut extent mesh word base)) files = OnBased mesh word base files (λ read values vertex. do
   kind ← HasKind extent read.1 files
   opened ← CutsAt kind read.1 values vertex
-  GivesOpened read.0 opened
-OnRequest (Some (sew mesh)) files = do
-  bytes ← Reads mesh files
-  read ← IsMeshText bytes
+  GivesOpened read.0 opened)
+OnRequest (Some (sew mesh)) files = OnText mesh files (λ bytes read. do
   origins ← HasOrigins bytes read.1.vertices
   sewn ← IsSewn read origins
-  OnSewnMesh read origins sewn
-OnRequest (Some (disc mesh)) files = do
-  bytes ← Reads mesh files
-  read ← IsMeshText bytes
-  JudgesDisc read.1
-OnRequest (Some (class mesh walk)) files = do
-  bytes ← Reads mesh files
-  read ← IsSurfaceText bytes
-  AtMost Loops 1024 (loop_count read.1)
+  OnSewnMesh read origins sewn)
+OnRequest (Some (disc mesh)) files = OnText mesh files (λ bytes read. JudgesDisc read.1)
+OnRequest (Some (class mesh walk)) files = OnFewLoops mesh files (λ read. do
   closed ← HasWalk First walk read.1 files
-  GivesClass read.1 closed None
-OnRequest (Some (same mesh first second)) files = do
-  bytes ← Reads mesh files
-  read ← IsSurfaceText bytes
-  AtMost Loops 1024 (loop_count read.1)
+  GivesClass read.1 closed None)
+OnRequest (Some (same mesh first second)) files = OnFewLoops mesh files (λ read. do
   closed ← HasWalk First first read.1 files
   other ← HasWalk Second second read.1 files
-  GivesClass read.1 closed (Some other)
-OnRequest (Some (confirm mesh walk cert)) files = do
-  bytes ← Reads mesh files
-  read ← IsSurfaceText bytes
+  GivesClass read.1 closed (Some other))
+OnRequest (Some (confirm mesh walk cert)) files = OnSurface mesh files (λ read. do
   closed ← HasWalk First walk read.1 files
   text ← Reads cert files
   evidence ← IsEvidenceText text
-  JudgesEvidence read.1 closed evidence
-OnRequest (Some (shortest mesh word walk)) files = do
-  bytes ← Reads mesh files
-  read ← IsSurfaceText bytes
-  AtMost Loops 1024 (loop_count read.1)
+  JudgesEvidence read.1 closed evidence)
+OnRequest (Some (shortest mesh word walk)) files = OnFewLoops mesh files (λ read. do
   AtMost CoverLoops 8 (loop_count read.1)
   AtMost CoverNodes 65536 (read.1.vertices * 2 ^ loop_count read.1)
   values ← HasLengths word read.1 files
   closed ← HasWalk First walk read.1 files
-  GivesShortestWalk read.1 values closed
-OnRequest (Some (certify_loops mesh word base)) files = do
-  bytes ← Reads mesh files
-  read ← IsSurfaceText bytes
-  AtMost Loops 1024 (loop_count read.1)
-  values ← HasLengths word read.1 files
-  vertex ← HasBase base read.1
-  GivesLoopCert read.1 values vertex
-OnRequest (Some (certify_basis mesh word)) files = do
-  bytes ← Reads mesh files
-  read ← IsSurfaceText bytes
-  AtMost Loops 1024 (loop_count read.1)
-  AtMost CertificateVertices 1000 read.1.vertices
-  values ← HasLengths word read.1 files
-  GivesBasisCert read.1 values
-OnRequest (Some (check mesh word cert)) files = do
-  bytes ← Reads mesh files
-  read ← IsSurfaceText bytes
-  AtMost Loops 1024 (loop_count read.1)
-  values ← HasLengths word read.1 files
+  GivesShortestWalk read.1 values closed)
+OnRequest (Some (certify_loops mesh word base)) files = OnBased mesh word base files (λ read. GivesLoopCert read.1)
+OnRequest (Some (certify_basis mesh word)) files =
+    OnSmall CertificateVertices 1000 mesh word files (λ read. GivesBasisCert read.1)
+OnRequest (Some (check mesh word cert)) files = OnMeasured mesh word files (λ read values. do
   text ← Reads cert files
   certificate ← IsCertText text
   AtMost CertificateVertices 1000 (tree_count read.1 certificate)
-  JudgesCert read.1 values certificate
-OnRequest (Some (lengths mesh decimals)) files = do
-  bytes ← Reads mesh files
-  read ← IsSurfaceText bytes
+  JudgesCert read.1 values certificate)
+OnRequest (Some (lengths mesh decimals)) files = OnSurface mesh files (λ read. do
   values ← Measures decimals read
-  GivesLengths read.1 values
-OnRequest (Some (gen_shape shape)) files = do
-  AtMost Vertices 1000000 (mesh_of shape).vertices
-  AtMost Faces 2000000 (face_count (mesh_of shape))
-  GivesMesh (mesh_of shape)
-OnRequest (Some (try_shape shape scatter)) files = do
-  AtMost Vertices 1000000 (mesh_of shape).vertices
-  AtMost Faces 2000000 (face_count (mesh_of shape))
+  GivesLengths read.1 values)
+OnRequest (Some (gen_shape shape)) files = OnMesh (mesh_of shape) (GivesMesh (mesh_of shape))
+OnRequest (Some (try_shape shape scatter)) files = OnMesh (mesh_of shape) (do
   AtMost Loops 1024 (loop_count (mesh_of shape))
   AtMost BasisVertices 20000 (mesh_of shape).vertices
-  GivesSummary (mesh_of shape) (made_values (mesh_of shape) scatter)
+  GivesSummary (mesh_of shape) (made_values (mesh_of shape) scatter))
 
 -- the file of the lengths that a word gives, where it isn't `unit`
 abbrev pub length_file : List ℕ → List (List ℕ)
@@ -168,9 +103,6 @@ point_file (through points) = points ∷ []
 
 -- the files that a request names
 abbrev pub named : Option Request → List (List ℕ)
-named None = []
-named (Some help) = []
-named (Some version) = []
 named (Some (info mesh)) = mesh ∷ []
 named (Some (dist mesh word base)) = mesh ∷ length_file word
 named (Some (loops mesh word base)) = mesh ∷ length_file word
@@ -187,5 +119,4 @@ named (Some (certify_loops mesh word base)) = mesh ∷ length_file word
 named (Some (certify_basis mesh word)) = mesh ∷ length_file word
 named (Some (check mesh word cert)) = mesh ∷ cert ∷ length_file word
 named (Some (lengths mesh decimals)) = mesh ∷ []
-named (Some (gen_shape shape)) = []
-named (Some (try_shape shape scatter)) = []
+named request = []

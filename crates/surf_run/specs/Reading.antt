@@ -1,5 +1,5 @@
 -- What is read of files: bytes, meshes, lengths, walks, vertices, certificates and evidence.
-use Rattle.std.specs.Prelude.{◌≡◌, ◌≢◌, ◌<◌, ◌≤◌, ◌⊎◌, ℕ, nat_lt, List, length, replicate, Option, Some, None, codes}
+use Rattle.std.specs.Prelude.{◌≡◌, ◌<◌, ◌≤◌, ◌⊎◌, ℕ, nat_lt, List, length, replicate, Option, Some, None, codes}
 use Rattle.std.specs.Prelude.{Result, Ok, Err, IfSome, if◌then◌else◌}
 use Rattle.std.specs.Str.{bytes_eq}
 use Rattle.surf_base.specs.Outside.{Files, bytes_of}
@@ -10,7 +10,6 @@ use Rattle.surf_surfaces.specs.Walk.{IsClosed}
 use Rattle.surf_classes.specs.Evidence.{Evidence}
 use Rattle.surf_off.specs.Off.{OffParts, off_of}
 use Rattle.surf_check.specs.Fault.{IsSurfaceFault}
-use Rattle.surf_check.specs.declared.checking.SurfaceFault.{SurfaceFault}
 use Rattle.surf_check.specs.declared.checking.SurfaceFault.TheVariants.{Memory}
 use Rattle.surf_lengths.specs.Files.{lengths_in}
 use Rattle.surf_lengths.specs.Lengths.{AreLengths}
@@ -22,8 +21,9 @@ use Rattle.surf_class.specs.Points.{points_in}
 use Rattle.surf_class.specs.Walks.{walk_in}
 use Rattle.surf_texts.specs.Cause.{outcome_of, refused_by}
 use Rattle.surf_texts.specs.CertLines.{cert_cause}
+use Rattle.surf_texts.specs.Faults.{TellsFault}
 use Rattle.surf_texts.specs.EvidenceLines.{evidence_cause}
-use Rattle.surf_texts.specs.LengthLines.{length_cause, base_line}
+use Rattle.surf_texts.specs.LengthLines.{length_cause}
 use Rattle.surf_texts.specs.Limits.{beyond}
 use Rattle.surf_texts.specs.MeshLines.{off_cause}
 use Rattle.surf_texts.specs.Outcome.{Outcome, misses, refuses}
@@ -35,6 +35,7 @@ use Rattle.surf_cutter.specs.Kinds.{Kind, full, trimmed, through}
 use Rattle.surf_words.specs.Words.{Extent, fully}
 use Rattle.surf_words.specs.Words.{trimmed as trimmed_words, through as through_words}
 use Rattle.surf_run.specs.Steps.{Ends, and_then}
+use Rattle.surf_texts.specs.CountLines.{of_line}
 
 -- the bytes of a file, unless it isn't there or has more than 268,435,456 of them
 abbrev pub within_text : Option (List ℕ) → Result (List ℕ) Outcome
@@ -57,11 +58,8 @@ GivesMesh bytes (Ok mesh) = (parts : OffParts) × IsMeshText bytes (Ok (parts, m
 GivesMesh bytes (Err outcome) = IsMeshText bytes (Err outcome)
 
 -- A fault of the mesh comes out so.
-pub record EndsInFault (mesh : Mesh) (outcome : Outcome) : Type 0 where
-  pub fault : SurfaceFault
-  pub isnt_memory : fault ≢ Memory
-  pub is_fault : IsSurfaceFault mesh fault
-  pub is : outcome ≡ outcome_of (surface_cause fault)
+abbrev pub EndsInFault : Mesh → Outcome → Type 0
+EndsInFault mesh = TellsFault Memory (IsSurfaceFault mesh) (λ fault. outcome_of (surface_cause fault))
 
 -- The mesh is a surface, and goes on; or it has a fault.
 abbrev pub IsSurfaceOf : Mesh → Result Mesh Outcome → Type 0
@@ -112,7 +110,7 @@ HasLengths word mesh files (Err outcome) = Err outcome ≡ lengths_for word mesh
 -- The base is a vertex.
 abbrev pub HasBase : ℕ → Mesh → Result ℕ Outcome → Type 0
 HasBase base mesh (Ok vertex) = (vertex ≡ base) × (base < mesh.vertices)
-HasBase base mesh (Err outcome) = (mesh.vertices ≤ base) × (outcome ≡ refuses 7 (base_line base mesh.vertices))
+HasBase base mesh (Err outcome) = (mesh.vertices ≤ base) × (outcome ≡ refuses 7 (of_line "base: " base mesh.vertices))
 
 -- ---- walks
 

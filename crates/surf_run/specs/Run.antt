@@ -1,22 +1,21 @@
 -- What a run leaves of its sinks.
-use Rattle.std.specs.Prelude.{◌≡◌, ◌<◌, ◌≤◌, ◌⊎◌, ℕ, false, List, [], ◌∷◌, ◌++◌, Option, Some, codes}
+use Rattle.std.specs.Prelude.{◌≡◌, ◌<◌, ◌≤◌, ◌⊎◌, ℕ, false, List, [], ◌∷◌, ◌++◌, Option, Some, None, codes}
 use Rattle.std.specs.List.{list_any}
 use Rattle.surf_base.specs.Outside.{Files, HasRisen, GrowsBy}
 use Rattle.surf_base.specs.Transfer.{GrowsByShorter}
 use Rattle.surf_text.specs.Text.{is_line_end}
 use Rattle.surf_texts.specs.Cause.{Cause, line_of, status_of_cause}
-use Rattle.surf_run.specs.Commands.{named}
 use Rattle.surf_run.specs.Leads.{Answer}
-use Rattle.surf_words.specs.Words.{Request, request_of}
-
--- There is a name.
-abbrev pub IsSomeName : List (List ℕ) → Type 0
-IsSomeName [] = ⊥
-IsSomeName (name ∷ names) = Unit {0}
+use Rattle.surf_words.specs.Words.{Request, help, version, gen_shape, try_shape, request_of}
 
 -- The words are a row of the command table that names a file.
 abbrev pub NamesFile : Option Request → Type 0
-NamesFile request = IsSomeName (named request)
+NamesFile None = ⊥
+NamesFile (Some help) = ⊥
+NamesFile (Some version) = ⊥
+NamesFile (Some (gen_shape shape)) = ⊥
+NamesFile (Some (try_shape shape scatter)) = ⊥
+NamesFile (Some other) = Unit {0}
 
 -- The shelf tells that it holds these files; or the request names no file, and then these may be any.
 abbrev pub AreTheFiles : Option Request → Option Files → Files → Type 0

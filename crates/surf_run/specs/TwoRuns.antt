@@ -6,8 +6,8 @@ use Rattle.surf_classes.specs.Evidence.{Evidence}
 use Rattle.surf_off.specs.Off.{OffParts, off_of, off_without_limits}
 use Rattle.surf_surfaces.specs.Choice.{Loop}
 use Rattle.surf_surfaces.specs.Mesh.{Mesh}
-use Rattle.surf_texts.specs.CycleTexts.{cycles_text}
-use Rattle.surf_texts.specs.LoopTexts.{loops_text}
+use Rattle.surf_texts.specs.MeasuredTexts.{measured_text}
+use Rattle.surf_texts.specs.CountLines.{count_line}
 use Rattle.surf_texts.specs.EvidenceLines.{right_line}
 use Rattle.surf_run.specs.Commands.{length_file}
 use Rattle.surf_run.specs.Leads.{Answer, Leads}
@@ -15,15 +15,14 @@ use Rattle.surf_run.specs.Named.{AgreeOn}
 use Rattle.surf_texts.specs.Outcome.{Outcome}
 use Rattle.surf_answers.specs.Says.{Says}
 use Rattle.surf_answers.specs.Summaries.{total_size}
-use Rattle.surf_texts.specs.VerdictLines.{loops_line, basis_line}
 
 -- `check` of a file answers that its certificate of loops is valid, with the total of the loops that `loops` says.
 abbrev pub LoopsPass : Files → List ℕ → List ℕ → List ℕ → List ℕ → Type 0
 LoopsPass files mesh lengths base cert =
     (loops : List Loop)
-    × ((outcome : Outcome) → Says (loops_text loops) outcome →
+    × ((outcome : Outcome) → Says (measured_text "loops " "loop " loops) outcome →
     Leads (codes "loops" ∷ mesh ∷ lengths ∷ base ∷ []) files outcome)
-    × Answer (codes "check" ∷ mesh ∷ lengths ∷ cert ∷ []) files 0 (loops_line (total_size loops)) []
+    × Answer (codes "check" ∷ mesh ∷ lengths ∷ cert ∷ []) files 0 (count_line "valid loops " (total_size loops)) []
 
 -- What `certify` writes at a base passes `check` in a later run, with the total of `loops`.
 abbrev pub CertifiedLoopsPass : Type 0
@@ -37,9 +36,9 @@ CertifiedLoopsPass =
 abbrev pub BasisPasses : Files → List ℕ → List ℕ → List ℕ → Type 0
 BasisPasses files mesh lengths cert =
     (basis : List Loop)
-    × ((outcome : Outcome) → Says (cycles_text basis) outcome →
+    × ((outcome : Outcome) → Says (measured_text "cycles " "cycle " basis) outcome →
     Leads (codes "basis" ∷ mesh ∷ lengths ∷ []) files outcome)
-    × Answer (codes "check" ∷ mesh ∷ lengths ∷ cert ∷ []) files 0 (basis_line (total_size basis)) []
+    × Answer (codes "check" ∷ mesh ∷ lengths ∷ cert ∷ []) files 0 (count_line "valid basis " (total_size basis)) []
 
 -- What `certify` writes of a basis passes `check` in a later run, with the total of `basis`.
 abbrev pub CertifiedBasesPass : Type 0

@@ -8,9 +8,11 @@ mod limits;
 mod made;
 mod points;
 mod reading;
+mod saying;
 mod surfaces;
 mod top;
 mod walks;
 
 pub use laws::{law_of_named_files, law_of_one_answer, law_of_two_runs};
-pub use top::{MEMORY, USAGE, run, say};
+pub use saying::{MEMORY, say};
+pub use top::{USAGE, run};

@@ -1,50 +1,20 @@
 //! The top call.
 ghost use Rattle.std.specs.Prelude.{◌≡◌, ◌≢◌, ◌⊎◌, ◌↔◌, ◌≤◌, ◌<◌, ℕ, List, None};
 ghost use Rattle.surf_base.specs.Outside.{Files, HasRisen};
-ghost use Rattle.surf_texts.specs.Refusals.{cause_of};
 ghost use Rattle.surf_run.specs.Leads.{Answer, Leads};
 ghost use Rattle.surf_texts.specs.Outcome.{misses};
-ghost use Rattle.surf_run.specs.Run.{AreTheFiles, NamesFile, PutsLine, IsLineOf, Refuses, WritesAnswer, WritesFront};
+ghost use Rattle.surf_run.specs.Run.{AreTheFiles, NamesFile, PutsLine, IsLineOf, WritesAnswer, WritesFront};
 ghost use Rattle.surf_answers.specs.Tells.{IsTold};
 ghost use Rattle.surf_words.specs.Words.{texts, request_of};
 
 use crate::commands::answer;
+use crate::saying::{refuse, say};
 use std::alloc::Global;
 use surf_base::{Shelf, Sink, put_all};
-use surf_texts::Refused;
 use surf_words::parse;
 
 /// The line for words that are in no row of the table of commands.
 pub const USAGE: &str = "usage: the words are in no row of the command table\n";
-
-/// The line for want of memory.
-pub const MEMORY: &str = "memory\n";
-
-/// Says a line, whatever the sink answers.
-pub fn say<D: Sink>(diag: &mut D, line: &str)
-    ensures { PutsLine (D.written diag.old) (D.written diag.new) (D.faults diag.old)
-        (D.faults diag.new) line.now }
-{
-    let _ = put_all(diag, line.as_bytes());
-}
-
-// Says why there is no answer, and gives the status: that of a cause, or want of memory for its
-// line.
-fn refuse<D: Sink>(alloc: Global, refused: &Refused, diag: &mut D) -> u8
-    ensures { Refuses (cause_of refused.now) result (D.written diag.old) (D.written diag.new)
-        (D.faults diag.old) (D.faults diag.new) }
-{
-    match refused.line(alloc) {
-        Ok(line) => {
-            say(diag, line.as_str());
-            refused.status()
-        }
-        Err(_) => {
-            say(diag, MEMORY);
-            11
-        }
-    }
-}
 
 /// Does all that the program does, and answers its status.
 pub fn run<S: Shelf, O: Sink, D: Sink>(

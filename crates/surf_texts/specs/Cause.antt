@@ -15,8 +15,7 @@ pub data Cause : Type 0 where
 -- what is due. No definition decides on a read that failed or on want of memory
 abbrev pub outcome_of : Cause → Outcome
 outcome_of (due outcome) = outcome
-outcome_of unread = misses
-outcome_of starved = misses
+outcome_of other = misses
 
 -- what was read, or what comes of its fault
 abbrev pub refused_by : {A E : Type 0} → (E → Cause) → Result A E → Result A Outcome

@@ -1,13 +1,14 @@
 pub mod Cause
 pub mod CertLines
-pub mod CycleTexts
+pub mod CountLines
 pub mod DiscLines
 pub mod DistanceTexts
 pub mod EvidenceLines
+pub mod Faults
 pub mod Fills
 pub mod LengthLines
 pub mod Limits
-pub mod LoopTexts
+pub mod MeasuredTexts
 pub mod MeshLines
 pub mod Outcome
 pub mod PointLines

@@ -7,6 +7,7 @@ use Rattle.surf_geom.specs.declared.fault.GeomFault.{GeomFault}
 use Rattle.surf_geom.specs.Lines.{fault_line}
 use Rattle.surf_texts.specs.Cause.{Cause, due, unread, starved, told_with}
 use Rattle.surf_texts.specs.CertLines.{cert_cause}
+use Rattle.surf_texts.specs.CountLines.{of_line}
 use Rattle.surf_texts.specs.SewingLines.{copy_cause, sew_cause}
 use Rattle.surf_texts.specs.EvidenceLines.{evidence_cause}
 use Rattle.surf_texts.specs.WalkLines.{walk_cause}
@@ -15,7 +16,7 @@ use Rattle.surf_texts.specs.MeshLines.{off_cause}
 use Rattle.surf_texts.specs.Outcome.{refuses}
 use Rattle.surf_texts.specs.PointLines.{near_cause, point_cause}
 use Rattle.surf_texts.specs.SurfaceLines.{surface_cause}
-use Rattle.surf_texts.specs.LengthLines.{length_cause, base_line}
+use Rattle.surf_texts.specs.LengthLines.{length_cause}
 use Rattle.surf_texts.specs.declared.refusal.Refused.{Refused}
 use Rattle.surf_texts.specs.declared.refusal.Refused.TheVariants.{MeshText, Surface, Lengths, Base, Certificate}
 use Rattle.surf_texts.specs.declared.refusal.Refused.TheVariants.{Coordinates, Copies, Sewing, Walk, Evidence, Limit}
@@ -29,7 +30,7 @@ abbrev pub cause_of : Refused → Cause
 cause_of (MeshText fault) = off_cause fault
 cause_of (Surface fault) = surface_cause fault
 cause_of (Lengths fault) = length_cause fault
-cause_of (Base base vertices) = due (refuses 7 (base_line base vertices))
+cause_of (Base base vertices) = due (refuses 7 (of_line "base: " base vertices))
 cause_of (Certificate fault) = cert_cause fault
 cause_of (Coordinates fault) = geom_cause fault
 cause_of (Copies fault vertices) = copy_cause vertices fault

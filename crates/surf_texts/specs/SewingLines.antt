@@ -1,21 +1,17 @@
 -- The lines of the first fault of copies and of sewing.
-use Rattle.std.specs.Prelude.{ℕ, List, [], ◌∷◌, ◌++◌, codes, decimal}
+use Rattle.std.specs.Prelude.{ℕ, [], ◌∷◌}
 use Rattle.surf_texts.specs.Cause.{Cause, due, starved, told}
+use Rattle.surf_texts.specs.CountLines.{of_line}
 use Rattle.surf_texts.specs.Outcome.{refuses}
 use Rattle.surf_sew.specs.declared.copies.CopyFault.{CopyFault}
 use Rattle.surf_sew.specs.declared.copies.CopyFault.TheVariants as copies
 use Rattle.surf_sew.specs.declared.fault.SewFault.{SewFault}
 use Rattle.surf_sew.specs.declared.fault.SewFault.TheVariants.{Gap, Line, FaceRepeat, Memory}
 
--- how many copies have lines, of how many there are
-abbrev pub copy_count_line : ℕ → ℕ → List ℕ
-copy_count_line have vertices =
-    codes "sew: copy-count " ++ (decimal have ++ (codes " of " ++ (decimal vertices ++ codes "\n")))
-
 -- the cause that a fault of the copy lines is, where there are so many copies
 abbrev pub copy_cause : ℕ → CopyFault → Cause
 copy_cause vertices (copies.CopyForm line) = told 14 "sew: copy-form" (line ∷ [])
-copy_cause vertices (copies.CopyCount have) = due (refuses 14 (copy_count_line have vertices))
+copy_cause vertices (copies.CopyCount have) = due (refuses 14 (of_line "sew: copy-count " have vertices))
 copy_cause vertices copies.Memory = starved
 
 -- the cause that a fault of sewing is

@@ -15,11 +15,8 @@ abbrev pub file_words : WalkFile → List ℕ
 file_words First = codes "walk 1: "
 file_words Second = codes "walk 2: "
 
-abbrev pub walk_line : WalkFile → List ℕ → List ℕ → List ℕ
-walk_line file words numbers = file_words file ++ numbered words numbers
-
 abbrev pub walk_told : WalkFile → Literal → List ℕ → Cause
-walk_told file words numbers = due (refuses 13 (walk_line file (codes words) numbers))
+walk_told file words numbers = due (refuses 13 (file_words file ++ numbered (codes words) numbers))
 
 -- the cause that a fault of a walk file is
 abbrev pub walk_cause : WalkFile → WalkFault → Cause

@@ -1,7 +1,8 @@
 //! The lines of discs.
 ghost use Rattle.std.specs.Prelude.{◌≡◌, ◌≢◌, string_bytes, IfOk};
-ghost use Rattle.surf_disc.specs.declared.faults.DiscFault.TheVariants.{Memory};
-ghost use Rattle.surf_texts.specs.DiscLines.{disc_text, no_line, border_line};
+ghost use Rattle.surf_disc.specs.declared.faults.DiscFault.TheVariants.{Border, Memory};
+ghost use Rattle.surf_texts.specs.DiscLines.{no_line};
+ghost use Rattle.surf_texts.specs.CountLines.{count_line};
 
 use std::alloc::{AllocError, Global};
 use surf_disc::{BorderKind, DiscFault};
@@ -9,13 +10,13 @@ use surf_text::numbered;
 
 /// The lines of a disc with this many border sides.
 pub fn disc_text(alloc: Global, border: u32) -> Result<String, AllocError>
-    ensures { IfOk result (λ text. string_bytes text ≡ disc_text border) }
+    ensures { IfOk result (λ text. string_bytes text ≡ count_line "disc\nborder " border) }
 {
     format!(in alloc; "disc\nborder {border}\n")
 }
 
 fn border_line(alloc: Global, kind: &BorderKind) -> Result<String, AllocError>
-    ensures { IfOk result (λ line. string_bytes line ≡ border_line kind.now) }
+    ensures { IfOk result (λ line. string_bytes line ≡ no_line (Border kind.now)) }
 {
     match kind {
         BorderKind::Nothing => String::from_str(alloc, "no border none\n"),

@@ -1,7 +1,8 @@
 //! The lines of length files and of bases.
 ghost use Rattle.std.specs.Prelude.{◌≡◌, string_bytes, IfOk};
 ghost use Rattle.surf_texts.specs.Cause.{line_of};
-ghost use Rattle.surf_texts.specs.LengthLines.{base_line, length_cause};
+ghost use Rattle.surf_texts.specs.LengthLines.{length_cause};
+ghost use Rattle.surf_texts.specs.CountLines.{of_line};
 
 use std::alloc::{AllocError, Global};
 use surf_lengths::LengthFault;
@@ -27,7 +28,7 @@ pub(crate) fn length_line(alloc: Global, fault: &LengthFault) -> Result<String, 
 
 /// The line of a base that is no vertex.
 pub(crate) fn base_line(alloc: Global, base: u32, vertices: u32) -> Result<String, AllocError>
-    ensures { IfOk result (λ line. string_bytes line ≡ base_line base vertices) }
+    ensures { IfOk result (λ line. string_bytes line ≡ of_line "base: " base vertices) }
 {
     format!(in alloc; "base: {base} of {vertices}\n")
 }

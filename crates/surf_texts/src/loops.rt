@@ -1,7 +1,7 @@
 //! The texts of loops.
 ghost use Rattle.std.specs.Prelude.{◌≡◌};
 ghost use Rattle.surf_texts.specs.Fills.{Fills};
-ghost use Rattle.surf_texts.specs.LoopTexts.{walk_line, loops_head};
+ghost use Rattle.surf_texts.specs.MeasuredTexts.{measured_line, total_lines};
 
 use crate::numbers::{put_head, put_line};
 use surf_base::VertexId;
@@ -9,14 +9,14 @@ use surf_text::{Page, PageFault};
 
 /// Puts the line of a loop: its length and its walk.
 pub fn put_loop(page: &mut Page, length: u64, walk: &[VertexId]) -> Result<(), PageFault>
-    ensures fills { Fills page.old page.new (walk_line length walk.now) result }
+    ensures fills { Fills page.old page.new (measured_line "loop " length walk.now) result }
 {
     put_line(page, b"loop ", length, walk)
 }
 
 /// Puts how many loops there are and what they total.
 pub fn put_loops_head(page: &mut Page, count: usize, total: u128) -> Result<(), PageFault>
-    ensures fills { Fills page.old page.new (loops_head count total) result }
+    ensures fills { Fills page.old page.new (total_lines "loops " count total) result }
 {
     put_head(page, b"loops ", count, total)
 }

@@ -1,14 +1,15 @@
 //! The lines of copies and of sewing.
 ghost use Rattle.std.specs.Prelude.{◌≡◌, string_bytes, IfOk};
 ghost use Rattle.surf_texts.specs.Cause.{line_of};
-ghost use Rattle.surf_texts.specs.SewingLines.{copy_cause, copy_count_line, sew_cause};
+ghost use Rattle.surf_texts.specs.SewingLines.{copy_cause, sew_cause};
+ghost use Rattle.surf_texts.specs.CountLines.{of_line};
 
 use std::alloc::{AllocError, Global};
 use surf_sew::{CopyFault, SewFault};
 use surf_text::numbered;
 
 fn copy_count_line(alloc: Global, have: u32, vertices: u32) -> Result<String, AllocError>
-    ensures { IfOk result (λ line. string_bytes line ≡ copy_count_line have vertices) }
+    ensures { IfOk result (λ line. string_bytes line ≡ of_line "sew: copy-count " have vertices) }
 {
     format!(in alloc; "sew: copy-count {have} of {vertices}\n")
 }

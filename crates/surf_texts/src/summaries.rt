@@ -1,6 +1,6 @@
 //! The counts and the measures of surfaces as texts.
 ghost use Rattle.std.specs.Prelude.{◌≡◌, string_bytes, IfOk};
-ghost use Rattle.surf_texts.specs.SummaryTexts.{counts_text, mesh_counts, genus_text, crosscaps_text, measures_text};
+ghost use Rattle.surf_texts.specs.SummaryTexts.{counts_text, mesh_counts, kind_text, measures_text};
 
 use std::alloc::{AllocError, Global};
 use surf_check::Kind;
@@ -29,7 +29,7 @@ pub fn kind_counts_text(alloc: Global, kind: &Kind) -> Result<String, AllocError
 
 /// The characteristic and the genus of a surface.
 pub fn genus_text(alloc: Global, characteristic: i64, genus: u32) -> Result<String, AllocError>
-    ensures { IfOk result (λ text. string_bytes text ≡ genus_text characteristic genus) }
+    ensures { IfOk result (λ text. string_bytes text ≡ kind_text "\ngenus " characteristic genus) }
 {
     format!(in alloc; "characteristic {characteristic}\ngenus {genus}\n")
 }
@@ -40,7 +40,7 @@ pub fn crosscaps_text(
     characteristic: i64,
     crosscaps: u64,
 ) -> Result<String, AllocError>
-    ensures { IfOk result (λ text. string_bytes text ≡ crosscaps_text characteristic crosscaps) }
+    ensures { IfOk result (λ text. string_bytes text ≡ kind_text "\ncrosscaps " characteristic crosscaps) }
 {
     format!(in alloc; "characteristic {characteristic}\ncrosscaps {crosscaps}\n")
 }

@@ -1,7 +1,8 @@
 //! The lines of checks of certificates.
 ghost use Rattle.std.specs.Prelude.{◌≡◌, ◌≢◌, string_bytes, IfOk};
-ghost use Rattle.surf_treecheck.specs.declared.fault.CertFault.TheVariants.{Memory};
-ghost use Rattle.surf_texts.specs.VerdictLines.{basis_line, fault_line, heavier_line, loops_line, part_line};
+ghost use Rattle.surf_treecheck.specs.declared.fault.CertFault.TheVariants.{Heavier, Memory, Shape};
+ghost use Rattle.surf_texts.specs.VerdictLines.{fault_line};
+ghost use Rattle.surf_texts.specs.CountLines.{count_line};
 
 use std::alloc::{AllocError, Global};
 use surf_base::VertexId;
@@ -10,20 +11,20 @@ use surf_treecheck::{CertFault, CertPart};
 
 /// The line of a valid certificate of loops.
 pub fn loops_line(alloc: Global, total: u128) -> Result<String, AllocError>
-    ensures { IfOk result (λ text. string_bytes text ≡ loops_line total) }
+    ensures { IfOk result (λ text. string_bytes text ≡ count_line "valid loops " total) }
 {
     format!(in alloc; "valid loops {total}\n")
 }
 
 /// The line of a valid certificate of a basis.
 pub fn basis_line(alloc: Global, total: u128) -> Result<String, AllocError>
-    ensures { IfOk result (λ text. string_bytes text ≡ basis_line total) }
+    ensures { IfOk result (λ text. string_bytes text ≡ count_line "valid basis " total) }
 {
     format!(in alloc; "valid basis {total}\n")
 }
 
 fn part_line(part: CertPart) -> &'static str
-    ensures { result.now ≡ part_line part }
+    ensures { result.now ≡ fault_line (Shape part) }
 {
     match part {
         CertPart::Vertices => "no shape vertices\n",
@@ -38,7 +39,7 @@ fn heavier_line(
     left: (VertexId, VertexId),
     cotree: (VertexId, VertexId),
 ) -> Result<String, AllocError>
-    ensures { IfOk result (λ line. string_bytes line ≡ heavier_line left cotree) }
+    ensures { IfOk result (λ line. string_bytes line ≡ fault_line (Heavier left cotree)) }
 {
     let (u, v) = left;
     let (s, t) = cotree;

@@ -1,7 +1,8 @@
 //! The lines of walk files.
-ghost use Rattle.std.specs.Prelude.{◌≡◌, string_bytes, IfOk};
+ghost use Rattle.std.specs.Prelude.{◌≡◌, ◌++◌, string_bytes, IfOk};
 ghost use Rattle.surf_texts.specs.Cause.{line_of};
-ghost use Rattle.surf_texts.specs.WalkLines.{file_words, walk_cause, walk_line};
+ghost use Rattle.surf_texts.specs.WalkLines.{file_words, walk_cause};
+ghost use Rattle.surf_text.specs.Numbers.{numbered};
 
 use std::alloc::{AllocError, Global};
 use surf_class::WalkFault;
@@ -32,7 +33,7 @@ fn labelled(
     words: &str,
     numbers: &[u32],
 ) -> Result<String, AllocError>
-    ensures { IfOk result (λ line. string_bytes line ≡ walk_line file words.now numbers.now) }
+    ensures { IfOk result (λ line. string_bytes line ≡ file_words file ++ numbered words.now numbers.now) }
 {
     let mut line = String::from_str(alloc, file.words())?;
     let rest = numbered(alloc, words, numbers)?;

@@ -20,22 +20,14 @@ pub record IsShape (s : Shape) : Type 0 where
 abbrev pub mesh_of : Shape → Mesh
 mesh_of s = chain s.tori s.rows s.columns
 
--- the torus of as many rows and columns, from 3 on
-abbrev pub torus_shape : ℕ → ℕ → Option Shape
-torus_shape rows columns =
-    if nat_le 3 rows && nat_le 3 columns then Some (record { tori = 1; rows = rows; columns = columns }) else None
-
--- the chain of as many tori of as many rows and columns, from 1 torus and from 4 rows and columns on
-abbrev pub chain_shape : ℕ → ℕ → ℕ → Option Shape
-chain_shape tori rows columns =
-    if nat_le 1 tori && (nat_le 4 rows && nat_le 4 columns)
+-- the chain of as many tori of as many rows and columns, from 1 torus and from a least number of rows and columns on
+abbrev pub shape_from : ℕ → ℕ → ℕ → ℕ → Option Shape
+shape_from least tori rows columns =
+    if nat_le 1 tori && (nat_le least rows && nat_le least columns)
     then Some (record { tori = tori; rows = rows; columns = columns })
     else None
 
--- those of numbers that may be missing
-abbrev pub torus_named : Option ℕ → Option ℕ → Option Shape
-torus_named rows columns = option_and_then (λ a. option_and_then (torus_shape a) columns) rows
-
-abbrev pub chain_named : Option ℕ → Option ℕ → Option ℕ → Option Shape
-chain_named tori rows columns =
-    option_and_then (λ g. option_and_then (λ a. option_and_then (chain_shape g a) columns) rows) tori
+-- that of numbers that may be missing
+abbrev pub shape_named : ℕ → Option ℕ → Option ℕ → Option ℕ → Option Shape
+shape_named least tori rows columns =
+    option_and_then (λ g. option_and_then (λ a. option_and_then (shape_from least g a) columns) rows) tori

@@ -8,7 +8,7 @@ use Prim.Native.String.{String as Literal}
 use Rattle.surf_text.specs.Text.{whole, words_of}
 use Rattle.surf_words.specs.declared.cuts.CutWords.{CutWords}
 use Rattle.surf_words.specs.declared.cuts.CutWords.TheVariants.{Full, Trimmed, Through}
-use Rattle.surf_words.specs.Shapes.{Shape, torus_named, chain_named}
+use Rattle.surf_words.specs.Shapes.{Shape, shape_named}
 use Rattle.surf_words.specs.declared.words.Command.{Command}
 use Rattle.surf_words.specs.declared.words.Command.TheVariants.{Help, Version, Info, Dist, Loops, Basis, Cycle}
 use Rattle.surf_words.specs.declared.words.Command.TheVariants.{CutFull, CutTrimmed, CutThrough, Sew, Disc, Class, Same}
@@ -71,12 +71,12 @@ with_lengths asked w = Some (asked (w "M") (w "L"))
 abbrev pub at_base : (List ℕ → List ℕ → ℕ → Request) → (Literal → List ℕ) → Option Request
 at_base asked w = option_map (asked (w "M") (w "L")) (word_number (w "x"))
 
--- the shapes of two numbers, and of three
+-- the torus of two numbers, and the chain of three
 abbrev pub torus_of : (Literal → List ℕ) → Option Shape
-torus_of w = torus_named (word_number (w "a")) (word_number (w "b"))
+torus_of w = shape_named 3 (Some 1) (word_number (w "a")) (word_number (w "b"))
 
 abbrev pub chain_of : (Literal → List ℕ) → Option Shape
-chain_of w = chain_named (word_number (w "g")) (word_number (w "a")) (word_number (w "b"))
+chain_of w = shape_named 4 (word_number (w "g")) (word_number (w "a")) (word_number (w "b"))
 
 -- a shape with a scatter
 abbrev pub tried : Option Shape → Option ℕ → Option Request

@@ -1,7 +1,7 @@
 //! Shapes of meshes that are made from numbers.
 ghost use Rattle.std.specs.Prelude.{◌≡◌, ◌<◌};
 ghost use Rattle.surf_surfaces.specs.Surface.{face_count, loop_count};
-ghost use Rattle.surf_words.specs.Shapes.{IsShape, mesh_of, torus_shape, chain_shape};
+ghost use Rattle.surf_words.specs.Shapes.{IsShape, mesh_of, shape_from};
 
 use std::marker::Model;
 
@@ -32,7 +32,7 @@ impl Model for Shape {
 impl Shape {
     /// The torus of as many rows and columns, from 3 on.
     pub fn torus(rows: u32, columns: u32) -> Option<Shape>
-        ensures { result ≡ torus_shape rows columns }
+        ensures { result ≡ shape_from 3 1 rows columns }
     {
         if rows >= 3 && columns >= 3 {
             Some(Shape {
@@ -48,7 +48,7 @@ impl Shape {
     /// The chain of as many tori of as many rows and columns, from 1 torus and from 4 rows and
     /// columns on.
     pub fn chain(tori: u32, rows: u32, columns: u32) -> Option<Shape>
-        ensures { result ≡ chain_shape tori rows columns }
+        ensures { result ≡ shape_from 4 tori rows columns }
     {
         if tori >= 1 && rows >= 4 && columns >= 4 {
             Some(Shape {

@@ -1,6 +1,6 @@
 //! The words of the command line.
-ghost use Rattle.std.specs.Prelude.{◌≡◌, [], ◌∷◌, option_map, option_and_then};
-ghost use Rattle.surf_words.specs.Shapes.{torus_named, chain_named};
+ghost use Rattle.std.specs.Prelude.{◌≡◌, [], ◌∷◌, Some, option_map, option_and_then};
+ghost use Rattle.surf_words.specs.Shapes.{shape_named};
 ghost use Rattle.surf_words.specs.Words.{texts, word_number, few_decimals, Asks, IsAsked};
 ghost use Rattle.surf_words.specs.Words.{dist, loops, certify_loops, cut, fully, trimmed, through};
 ghost use Rattle.surf_words.specs.Words.{lengths as lengths_request, gen_shape, tried};
@@ -226,13 +226,13 @@ fn cut_through<'w>(
 }
 
 fn torus_of(rows: &str, columns: &str) -> Option<Shape>
-    ensures { result ≡ torus_named (word_number rows.now) (word_number columns.now) }
+    ensures { result ≡ shape_named 3 (Some 1) (word_number rows.now) (word_number columns.now) }
 {
     Shape::torus(number_of(rows)?, number_of(columns)?)
 }
 
 fn chain_of(tori: &str, rows: &str, columns: &str) -> Option<Shape>
-    ensures { result ≡ chain_named (word_number tori.now) (word_number rows.now)
+    ensures { result ≡ shape_named 4 (word_number tori.now) (word_number rows.now)
         (word_number columns.now) }
 {
     Shape::chain(number_of(tori)?, number_of(rows)?, number_of(columns)?)

@@ -1,6 +1,6 @@
 use Rattle.surf_surfaces.proofs.Common.{◌≡◌, ℕ, List, length, map, sym, subst, Err, sum, flat_map, err_from_is_err_and}
 use Rattle.surf_text.specs.Pages.{grown}
-use Rattle.surf_texts.specs.CycleTexts.{cycles_head}
+use Rattle.surf_texts.specs.MeasuredTexts.{total_lines}
 use Rattle.surf_texts.specs.Fills.{Fills}
 use Rattle.surf_texts.proofs.Filling.{stopped_first, fills_both}
 use Rattle.surf_answers.specs.CycleTexts.{cycle_found_line}
@@ -15,8 +15,8 @@ returns-in_err-put_cycles_head c =
     let fault = c.in_err-put_cycles_head.field-0.0 in
     let p = err_from_is_err_and c.from_residual.result c.from_residual.ensures.1 in
     rw (p.1, p.2) (subst (λ (text : List ℕ). Fills {A = Unit {0}} page new text (Err fault)) (sym (text_of_cycles cs))
-    (stopped_first page new (cycles_head (length cs) (sum (map (λ x. x.length) cs))) (flat_map cycle_found_line cs) fault
-    (subst (λ (n : ℕ). Fills {A = Unit {0}} page new (cycles_head (length cs) n) (Err fault)) c.total_of.ensures c.in_err-put_cycles_head.ensures.fills)))
+    (stopped_first page new (total_lines "cycles " (length cs) (sum (map (λ x. x.length) cs))) (flat_map cycle_found_line cs) fault
+    (subst (λ (n : ℕ). Fills {A = Unit {0}} page new (total_lines "cycles " (length cs) n) (Err fault)) c.total_of.ensures c.in_err-put_cycles_head.ensures.fills)))
 
 pub returns : goal.returns
 returns c =
@@ -25,6 +25,6 @@ returns c =
     let mid = c.put_cycles_head.new.page in
     let new = c.put_cycles.new.page in
     subst (λ (text : List ℕ). Fills page new text c.put_cycles.result) (sym (text_of_cycles cs))
-    (fills_both page mid new (cycles_head (length cs) (sum (map (λ x. x.length) cs))) (flat_map cycle_found_line cs) c.put_cycles.result
-    (subst (λ (n : ℕ). mid ≡ grown page (cycles_head (length cs) n)) c.total_of.ensures c.in_ok-put_cycles_head.ensures.fills)
+    (fills_both page mid new (total_lines "cycles " (length cs) (sum (map (λ x. x.length) cs))) (flat_map cycle_found_line cs) c.put_cycles.result
+    (subst (λ (n : ℕ). mid ≡ grown page (total_lines "cycles " (length cs) n)) c.total_of.ensures c.in_ok-put_cycles_head.ensures.fills)
     c.put_cycles.ensures)

@@ -1,6 +1,6 @@
 use Rattle.surf_surfaces.proofs.Common.{◌≡◌, ℕ, List, get_or, subst, Err, err_from_is_err_and}
 use Rattle.surf_basis.specs.declared.cycle.Cycle.{Cycle}
-use Rattle.surf_texts.specs.CycleTexts.{cycle_line}
+use Rattle.surf_texts.specs.MeasuredTexts.{measured_line}
 use Rattle.surf_texts.specs.Fills.{Fills}
 use Rattle.surf_texts.proofs.Filling.{stopped}
 use Rattle.surf_answers.specs.CycleTexts.{cycle_found_line}
@@ -15,4 +15,4 @@ returns-in_err-put_cycle c =
     let p = err_from_is_err_and c.from_residual.result c.from_residual.ensures.1 in
     rw (p.1, p.2) (stopped c.args.page.now c.loop-cycle.page c.put_cycle.new.page cycle_found_line c.args.cycles.now i cycle fault c.loop-cycle-test.true c.loop-cycle.invariant
     (subst (λ (x : Cycle). Fills {A = Unit {0}} c.loop-cycle.page c.put_cycle.new.page (cycle_found_line x) (Err fault)) here
-    (subst (λ (walk : List ℕ). Fills {A = Unit {0}} c.loop-cycle.page c.put_cycle.new.page (cycle_line cycle.length walk) (Err fault)) c.vertices.ensures c.in_err-put_cycle.ensures.fills)))
+    (subst (λ (walk : List ℕ). Fills {A = Unit {0}} c.loop-cycle.page c.put_cycle.new.page (measured_line "cycle " cycle.length walk) (Err fault)) c.vertices.ensures c.in_err-put_cycle.ensures.fills)))

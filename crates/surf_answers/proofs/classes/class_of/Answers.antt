@@ -1,22 +1,18 @@
-use Rattle.surf_surfaces.proofs.Common.{ℕ, List, subst, err_from_is_err_and, option_copied}
+use Rattle.surf_surfaces.proofs.Common.{ℕ, List, subst, option_copied}
 use Rattle.surf_class.specs.Seen.{seen}
 use Rattle.surf_class.specs.Texts.{evidence_text}
-use Rattle.surf_text.specs.Pages.{PageState, Stops}
-use Rattle.surf_answers.specs.Classes.{null_word, odd_word, GivesClass}
-use Rattle.surf_answers.proofs.Saying.{says_beyond, why_overfilled}
+use Rattle.surf_text.specs.Pages.{Stops}
+use Rattle.surf_answers.specs.Classes.{evidence_words, GivesClass}
+use Rattle.surf_answers.proofs.Saying.{page_stopped}
 use Rattle.surf_answers.proofs.classes.class_of.Goals as goal
 
 pub returns-in_err-write_evidence : goal.returns-in_err-write_evidence
 returns-in_err-write_evidence c =
     let other = option_copied c.args.second in
     let evidence = seen c.in_ok-evidence.evidence in
-    let text = evidence_text (null_word other) (odd_word other) evidence in
     let fault = c.in_err-write_evidence.field-0.0 in
-    let p = err_from_is_err_and c.from_residual-in_err-write_evidence.result c.from_residual-in_err-write_evidence.ensures.1 in
-    let stops : Stops c.make-page.result text fault =
-    subst (λ (w : List ℕ). Stops c.make-page.result (evidence_text w (odd_word other) evidence) fault) c.kinds.ensures.null
+    page_stopped (GivesClass c.args.mesh.now c.args.first.now other) (evidence_text (evidence_words other).0 (evidence_words other).1 evidence) c.make-page.result c.make-page.ensures.empty
+    (λ o says. record { evidence = evidence; chosen = c.in_ok-evidence.ensures.chosen; right = c.in_ok-evidence.ensures.right; says = says }) fault
+    (subst (λ (w : List ℕ). Stops c.make-page.result (evidence_text w (evidence_words other).1 evidence) fault) c.kinds.ensures.null
     (subst (λ (w : List ℕ). Stops c.make-page.result (evidence_text c.kinds.result.0.now w evidence) fault) c.kinds.ensures.odd
-    c.in_err-write_evidence.ensures.puts.1) in
-    rw (p.1, p.2) (why_overfilled (GivesClass c.args.mesh.now c.args.first.now other) text fault
-    (λ long. record { evidence = evidence; chosen = c.in_ok-evidence.ensures.chosen; right = c.in_ok-evidence.ensures.right; says = says_beyond text long })
-    (subst (λ (page : PageState). Stops page text fault) c.make-page.ensures.empty stops))
+    c.in_err-write_evidence.ensures.puts.1)) c.from_residual-in_err-write_evidence.result c.from_residual-in_err-write_evidence.ensures.1

@@ -2,7 +2,7 @@ use Rattle.surf_surfaces.proofs.Common.{◌≡◌, ◌<◌, ◌∙◌, ℕ, List
 use Rattle.surf_loops.specs.declared.head.LoopHead.{LoopHead}
 use Rattle.surf_text.specs.declared.page.PageFault.TheVariants.{Memory}
 use Rattle.surf_texts.specs.Fills.{Fills}
-use Rattle.surf_texts.specs.LoopTexts.{walk_line}
+use Rattle.surf_texts.specs.MeasuredTexts.{measured_line}
 use Rattle.surf_texts.proofs.Filling.{none_put, stopped}
 use Rattle.surf_answers.specs.HeadTexts.{head_line}
 use Rattle.surf_answers.proofs.loops.put_loops.Goals as goal
@@ -18,7 +18,7 @@ returns-in_err-put_loop c =
     rw (p.1, p.2) (stopped c.args.page.now c.loop-head.page c.put_loop.new.page (head_line c.args.mesh.now c.args.loops.now.tree) c.args.loops.now.heads i h fault
     (subst (λ (hs : List LoopHead). i < length hs) heads c.loop-head-test.true) c.loop-head.invariant
     (subst (λ (x : LoopHead). Fills {A = Unit {0}} c.loop-head.page c.put_loop.new.page (head_line c.args.mesh.now c.args.loops.now.tree x) (Err fault)) here
-    (subst (λ (walk : List ℕ). Fills {A = Unit {0}} c.loop-head.page c.put_loop.new.page (walk_line h.length walk) (Err fault)) (c.vertices.ensures ∙ c.in-Ok.ensures.walk) c.in_err-put_loop.ensures.fills)))
+    (subst (λ (walk : List ℕ). Fills {A = Unit {0}} c.loop-head.page c.put_loop.new.page (measured_line "loop " h.length walk) (Err fault)) (c.vertices.ensures ∙ c.in-Ok.ensures.walk) c.in_err-put_loop.ensures.fills)))
 
 pub returns-in_default : goal.returns-in_default
 returns-in_default c =

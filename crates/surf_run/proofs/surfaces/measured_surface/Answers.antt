@@ -1,33 +1,36 @@
-use Rattle.surf_run.proofs.Fronts.{no_surface, many_loops, no_lengths, measured_so}
+use Rattle.std.proofs.Common.{Err, refl}
+use Rattle.surf_run.specs.Fronts.{MeasuresSurface}
+use Rattle.surf_run.specs.Reading.{IsSurfaceText}
+use Rattle.surf_run.proofs.Composing.{begun, over, past, stopped, last_stopped, refused}
+use Rattle.surf_run.proofs.Fronts.{measured_so}
+use Rattle.surf_run.proofs.TextsAt.{text_stopped}
 use Rattle.surf_run.proofs.surfaces.measured_surface.Goals as goal
 
 pub returns-in_err-mesh-clause-tells : goal.returns-in_err-mesh-clause-tells
 returns-in_err-mesh-clause-tells g c =
-    no_surface c.args.name.now c.args.word.now (g.S.Shelf.holds c.args.shelf.now) (g.S.Shelf.faults c.args.shelf.now) _
-    c.in_err-mesh.field-0.0 c.in_err-mesh.ensures.tells c.from_residual.result c.from_residual.ensures.1
+    refused (MeasuresSurface c.args.name.now c.args.word.now) c.in_err-mesh.field-0.0 c.from_residual.result c.from_residual.ensures.1
+    (text_stopped _ _ _ IsSurfaceText _ _ c.in_err-mesh.field-0.0 c.in_err-mesh.ensures.tells (Err c.in_err-mesh.field-0.0) refl)
 
 pub returns-in_err-test_loops-clause-tells : goal.returns-in_err-test_loops-clause-tells
 returns-in_err-test_loops-clause-tells g c =
     let read = c.in_ok-mesh in
     let held = read.ensures.held in
-    many_loops c.args.name.now c.args.word.now (g.S.Shelf.holds c.args.shelf.now) (g.S.Shelf.faults c.args.shelf.now)
-    _ _ read.mesh held.0 held.1 read.ensures.holds held.2 read.ensures.later
-    c.in_err-test_loops.field-0.0 c.in_err-test_loops.ensures.tells c.from_residual-in_err-test_loops.result
-    c.from_residual-in_err-test_loops.ensures.1
+    let e = c.in_err-test_loops.field-0.0 in
+    refused (MeasuresSurface c.args.name.now c.args.word.now) e c.from_residual-in_err-test_loops.result c.from_residual-in_err-test_loops.ensures.1
+    (stopped (past (over begun held.0 read.ensures.holds held.2.0 read.ensures.later) (held.1, read.mesh) held.2.1) e c.in_err-test_loops.ensures.tells (Err e) refl)
 
 pub returns-in_err-lengths-clause-tells : goal.returns-in_err-lengths-clause-tells
 returns-in_err-lengths-clause-tells g c =
     let read = c.in_ok-mesh in
     let held = read.ensures.held in
-    no_lengths c.args.name.now c.args.word.now (g.S.Shelf.holds c.args.shelf.now) (g.S.Shelf.faults c.args.shelf.now)
-    _ _ read.mesh held.0 held.1 read.ensures.holds held.2 read.ensures.later c.in_ok-test_loops.ensures.tells
-    _ _ c.in_err-lengths.field-0.0 read.ensures.holds c.in_err-lengths.ensures.tells
-    c.from_residual-in_err-lengths.result c.from_residual-in_err-lengths.ensures.1
+    let e = c.in_err-lengths.field-0.0 in
+    refused (MeasuresSurface c.args.name.now c.args.word.now) e c.from_residual-in_err-lengths.result c.from_residual-in_err-lengths.ensures.1
+    (last_stopped (past (past (over begun held.0 read.ensures.holds held.2.0 read.ensures.later) (held.1, read.mesh) held.2.1) tt c.in_ok-test_loops.ensures.tells)
+    _ e read.ensures.holds c.in_err-lengths.ensures.tells)
 
 pub returns-clause-tells : goal.returns-clause-tells
 returns-clause-tells g c =
     let read = c.in_ok-mesh in
     let held = read.ensures.held in
-    measured_so c.args.name.now c.args.word.now (g.S.Shelf.holds c.args.shelf.now) (g.S.Shelf.faults c.args.shelf.now)
-    _ _ read.mesh held.0 held.1 read.ensures.holds held.2 read.ensures.later c.in_ok-test_loops.ensures.tells
-    c.in_ok-lengths.lengths _ read.ensures.holds c.in_ok-lengths.ensures.tells
+    measured_so c.args.name.now c.args.word.now read.mesh held.0 c.in_ok-lengths.lengths held.1 read.ensures.holds held.2 c.in_ok-test_loops.ensures.tells
+    read.ensures.holds c.in_ok-lengths.ensures.tells
