@@ -1,16 +1,18 @@
 -- Lines that name edges, one after the other, and the one table of their lengths.
 use Rattle.surf_surfaces.proofs.Common.{◌≡◌, ◌≢◌, ℕ, zero, suc, ◌<◌, ◌≤◌, ◌+◌, ◌⊎◌, eqb, Bool, true, false, List, [], ◌∷◌, ◌++◌, append_assoc, length, get_or, set, map, replicate, Option, Some, None, Result, Ok, Err, unwrap_or, refl, sym, ap, ◌∙◌, subst, arith, inl, inr, ◌&&◌, AllByRecursion, fold, position, position_or_len, nat_le, All, cases_eq, cases_Bool, eq-eqb, eqb-true, ne_eqb, nat_tests, get_or-set_same, get_or-set_other, append-nil, get_or-map, get_or-replicate, get_or_default, length-map, Mesh, edge_count, same_number_lists, fold-append}
+use Rattle.std.specs.Prelude.{ok_or}
 use Rattle.std.proofs.Math.ListN.{length-set, length-replicate}
 use Rattle.surf_text.specs.Text.{TextLine, tokens_of, trimmed, uncommented, onto_lines, numbered_from}
 use Rattle.surf_text.proofs.Cuts.{none_is}
 use Rattle.surf_lengths.specs.Lengths.{longest}
-use Rattle.surf_lengths.specs.Lines.{as_length, entry_of, of_numbers, of_length, on_edge, edge_named, three_numbers}
-use Rattle.surf_lengths.specs.Files.{Head, Named, none_named, name_edge, name_line, missing_edge, when_read}
+use Rattle.surf_base.specs.Gives.{◌>>=◌}
+use Rattle.surf_lengths.specs.Lines.{as_length, entry_of, of_numbers, edge_named, three_numbers}
+use Rattle.surf_lengths.specs.Files.{Head, Named, none_named, name_edge, name_line, all_named, missing_edge}
 use Rattle.surf_lengths.specs.Naming.{NamesOther, IsFirstNaming, length_or, IsTableOf, AreNamed}
 use Rattle.surf_lengths.specs.Walks.{IsEntry, IsFaulty}
 use Rattle.surf_lengths.specs.declared.line.Entry.{Entry}
 use Rattle.surf_lengths.specs.declared.fault.LengthFault.{LengthFault}
-use Rattle.surf_lengths.specs.declared.fault.LengthFault.TheVariants.{Twice}
+use Rattle.surf_lengths.specs.declared.fault.LengthFault.TheVariants.{Form, NotEdge, Twice}
 
 -- behind a faulty line nothing is read
 pub after_fault : (mesh : Mesh) (fault : LengthFault) (lines : List TextLine) → fold (name_line mesh) (Err fault) lines ≡ Err fault
@@ -18,12 +20,12 @@ unfolding name_line
 after_fault mesh fault [] = refl
 after_fault mesh fault (line ∷ rest) = after_fault mesh fault rest
 
-pub bad_line : (mesh : Mesh) (named : Named) (fault : LengthFault) (line : TextLine) (rest : List TextLine) → name_edge named line.number (entry_of mesh line) ≡ Err fault →
+pub bad_line : (mesh : Mesh) (named : Named) (fault : LengthFault) (line : TextLine) (rest : List TextLine) → entry_of mesh line >>= name_edge named line.number ≡ Err fault →
     fold (name_line mesh) (Ok named) (line ∷ rest) ≡ Err fault
 unfolding name_line
 bad_line mesh named fault line rest bad = ap (λ (s : Result Named LengthFault). fold (name_line mesh) s rest) bad ∙ after_fault mesh fault rest
 
-pub good_line : (mesh : Mesh) (named next : Named) (line : TextLine) (rest : List TextLine) → name_edge named line.number (entry_of mesh line) ≡ Ok next →
+pub good_line : (mesh : Mesh) (named next : Named) (line : TextLine) (rest : List TextLine) → entry_of mesh line >>= name_edge named line.number ≡ Ok next →
     fold (name_line mesh) (Ok named) (line ∷ rest) ≡ fold (name_line mesh) (Ok next) rest
 unfolding name_line
 good_line mesh named next line rest good = ap (λ (s : Result Named LengthFault). fold (name_line mesh) s rest) good
@@ -33,17 +35,17 @@ pub entry_bad : (mesh : Mesh) (named : Named) (fault : LengthFault) (old : List 
     fold (name_line mesh) (Ok named) old ≡ Err fault
 entry_bad mesh named fault old is =
     ap (fold (name_line mesh) (Ok named)) is.first
-    ∙ bad_line mesh named fault is.line is.rest (ap (name_edge named is.line.number) is.said)
+    ∙ bad_line mesh named fault is.line is.rest (ap (λ r. r >>= name_edge named is.line.number) is.said)
 
 module _ (mesh : Mesh) (named : Named) (old new : List TextLine) (entry : Entry) (is : IsEntry mesh old new entry) where
-  named_by : name_edge named is.line.number (entry_of mesh is.line) ≡ name_edge named entry.line (Ok (entry.edge, entry.length))
-  named_by = ap (name_edge named is.line.number) is.said ∙ ap (λ (n : ℕ). name_edge named n (Ok (entry.edge, entry.length))) is.number
+  named_by : entry_of mesh is.line >>= name_edge named is.line.number ≡ name_edge named entry.line (entry.edge, entry.length)
+  named_by = ap (λ r. r >>= name_edge named is.line.number) is.said ∙ ap (λ (n : ℕ). name_edge named n (entry.edge, entry.length)) is.number
 
-  pub entry_twice : (fault : LengthFault) → name_edge named entry.line (Ok (entry.edge, entry.length)) ≡ Err fault →
+  pub entry_twice : (fault : LengthFault) → name_edge named entry.line (entry.edge, entry.length) ≡ Err fault →
       fold (name_line mesh) (Ok named) old ≡ Err fault
   entry_twice fault bad = ap (fold (name_line mesh) (Ok named)) is.first ∙ bad_line mesh named fault is.line new (named_by ∙ bad)
 
-  pub entry_named : (next : Named) → name_edge named entry.line (Ok (entry.edge, entry.length)) ≡ Ok next →
+  pub entry_named : (next : Named) → name_edge named entry.line (entry.edge, entry.length) ≡ Ok next →
       fold (name_line mesh) (Ok named) old ≡ fold (name_line mesh) (Ok next) new
   entry_named next good = ap (fold (name_line mesh) (Ok named)) is.first ∙ good_line mesh named next is.line new (named_by ∙ good)
 
@@ -59,17 +61,17 @@ entry_positive : (mesh : Mesh) (line : TextLine) (x : ℕ × ℕ) → entry_of m
 unfolding second
 entry_positive mesh line x is = of_three (three_numbers (tokens_of line.bytes)) is
   where
-    of_edge : (l n : ℕ) (found : Option ℕ) → 1 ≤ n → on_edge l n found ≡ Ok x → 1 ≤ x.1
+    of_edge : (l n : ℕ) (found : Option ℕ) → 1 ≤ n → ok_or found (NotEdge l) >>= (λ e. Ok (e, n)) ≡ Ok x → 1 ≤ x.1
     of_edge l n None p h = cc
     of_edge l n (Some e) p h = subst (λ (r : Result (ℕ × ℕ) LengthFault). 1 ≤ second r) h p
 
-    of_number : (l u v n : ℕ) → of_length mesh l u v (as_length n) ≡ Ok x → 1 ≤ x.1
+    of_number : (l u v n : ℕ) → of_numbers mesh l (u, v, n) ≡ Ok x → 1 ≤ x.1
     of_number l u v n h = elim (cases_Bool (nat_le 1 n && nat_le n longest)) [
       | inl fits ↦ of_edge l n (edge_named mesh u v) (grind (arith, nat_tests)) (rw fits at h)
       | inr out ↦ let bad = rw out at h in cc
     ]
 
-    of_three : (three : Option (ℕ × ℕ × ℕ)) → of_numbers mesh line.number three ≡ Ok x → 1 ≤ x.1
+    of_three : (three : Option (ℕ × ℕ × ℕ)) → ok_or three (Form line.number) >>= of_numbers mesh line.number ≡ Ok x → 1 ≤ x.1
     of_three None h = cc
     of_three (Some t) h = of_number line.number t.0 t.1 t.2 h
 
@@ -307,8 +309,8 @@ module _ (mesh : Mesh) (default : Option ℕ) (entries : List TextLine) where
             fold-append (name_line mesh) (Ok (none_named mesh default)) so.front (is.line ∷ [])
             ∙ ap (λ (s : Result Named LengthFault). fold (name_line mesh) s (is.line ∷ [])) so.named.read
             ∙ good_line mesh so.named.named next is.line [] (
-            ap (name_edge so.named.named is.line.number) is.said
-            ∙ ap (λ (n : ℕ). name_edge so.named.named n (Ok (entry.edge, entry.length))) is.number
+            ap (λ r. r >>= name_edge so.named.named is.line.number) is.said
+            ∙ ap (λ (n : ℕ). name_edge so.named.named n (entry.edge, entry.length)) is.number
             ∙ rw free_line refl)
 
         first_here : IsFirstNaming mesh entry.edge (so.front ++ is.line ∷ []) entry.line
@@ -394,7 +396,7 @@ map_none [] = refl
 map_none (x ∷ xs) = rw (map_none xs) (ap (λ (n : ℕ). n ∷ xs) (length_none x))
 
 -- with a default no edge is missing
-pub complete_some : (mesh : Mesh) (m : ℕ) (named : Named) (table : List ℕ) → IsTableOf mesh (Some m) named table → when_read mesh (Some m) (Ok named) ≡ Ok (map (length_or (Some m)) table)
+pub complete_some : (mesh : Mesh) (m : ℕ) (named : Named) (table : List ℕ) → IsTableOf mesh (Some m) named table → all_named mesh named (missing_edge (Some m) named.lines) ≡ Ok (map (length_or (Some m)) table)
 complete_some mesh m named table is = ap (λ (xs : List ℕ). Ok xs) (lengths_filled mesh (Some m) named table is)
 
 pub filled_some : (m : ℕ) (table : List ℕ) → 1 ≤ m → All (λ n. n ≢ 0) (map (length_or (Some m)) table)
@@ -412,7 +414,7 @@ filled_some m table positive k d l z =
 pub missing_none : (mesh : Mesh) (named : Named) (table : List ℕ) → IsTableOf mesh None named table → missing_edge None named.lines ≡ position (λ n. eqb n 0) table
 missing_none mesh named table is = missing_same mesh None named table is
 
-pub complete_none : (mesh : Mesh) (named : Named) (table : List ℕ) → IsTableOf mesh None named table → position (λ n. eqb n 0) table ≡ None → when_read mesh None (Ok named) ≡ Ok table
+pub complete_none : (mesh : Mesh) (named : Named) (table : List ℕ) → IsTableOf mesh None named table → position (λ n. eqb n 0) table ≡ None → all_named mesh named (missing_edge None named.lines) ≡ Ok table
 complete_none mesh named table is none =
     rw (missing_none mesh named table is ∙ none) (ap (λ (xs : List ℕ). Ok xs) (lengths_filled mesh None named table is ∙ map_none table))
 

@@ -1,7 +1,8 @@
 -- What a length file says.
 use Rattle.std.specs.Prelude.{ℕ, ◌==◌, List, [], ◌∷◌, codes, replicate, slice_index, slice_set, Option}
-use Rattle.std.specs.Prelude.{Some, None, Result, Ok, Err, unwrap_or, if◌then◌else◌}
+use Rattle.std.specs.Prelude.{Some, None, is_some, Result, Ok, Err, unwrap_or, if◌then◌else◌}
 use Rattle.std.specs.List.{fold, position}
+use Rattle.surf_base.specs.Gives.{◌>>=◌}
 use Rattle.surf_text.specs.Text.{TextLine, tokens_of, lines_of}
 use Rattle.surf_surfaces.specs.Mesh.{Mesh}
 use Rattle.surf_surfaces.specs.Surface.{edge_count, ends}
@@ -14,16 +15,12 @@ pub record Head : Type 0 where
   pub default : Option ℕ
   pub entries : List TextLine
 
-abbrev pub with_default : List TextLine → Result ℕ LengthFault → Result Head LengthFault
-with_default rest (Err fault) = Err fault
-with_default rest (Ok n) = Ok (record { default = Some n; entries = rest })
-
 -- behind the first line of version 2: only the next line may be a default
 abbrev pub behind_version : List TextLine → Result Head LengthFault
 behind_version [] = Ok (record { default = None; entries = [] })
 behind_version (line ∷ rest) =
     if begins_with (codes "default") (tokens_of line.bytes)
-    then with_default rest (default_of line)
+    then (default_of line >>= λ n. Ok (record { default = Some n; entries = rest }))
     else Ok (record { default = None; entries = line ∷ rest })
 
 -- A file whose first line begins with SURFLEN is of version 2, and that line is then exactly SURFLEN 2. Every
@@ -46,37 +43,28 @@ none_named mesh default =
     record { lengths = replicate (edge_count mesh) (unwrap_or default 0); lines = replicate (edge_count mesh) 0 }
 
 -- A line names an edge that no earlier line names.
-abbrev pub name_edge : Named → ℕ → Result (ℕ × ℕ) LengthFault → Result Named LengthFault
-name_edge named line (Err fault) = Err fault
-name_edge named line (Ok x) =
+abbrev pub name_edge : Named → ℕ → ℕ × ℕ → Result Named LengthFault
+name_edge named line x =
     if slice_index named.lines x.0 == 0
     then Ok (record { lengths = slice_set named.lengths x.0 x.1; lines = slice_set named.lines x.0 line })
     else Err (Twice line (slice_index named.lines x.0))
 
 -- one line more, where none was faulty
 unfoldable pub name_line : Mesh → Result Named LengthFault → TextLine → Result Named LengthFault
-name_line mesh (Err fault) line = Err fault
-name_line mesh (Ok named) line = name_edge named line.number (entry_of mesh line)
+name_line mesh read line = read >>= λ named. entry_of mesh line >>= name_edge named line.number
 
+-- after the last line no edge may be missing
 abbrev pub all_named : Mesh → Named → Option ℕ → Result (List ℕ) LengthFault
 all_named mesh named None = Ok named.lengths
 all_named mesh named (Some e) = Err (Missing (ends mesh e).0 (ends mesh e).1)
 
 -- where there is no default, the least edge without a line
 abbrev pub missing_edge : Option ℕ → List ℕ → Option ℕ
-missing_edge None lines = position (λ line. line == 0) lines
-missing_edge (Some n) lines = None
-
--- after the last line no edge may be missing
-abbrev pub when_read : Mesh → Option ℕ → Result Named LengthFault → Result (List ℕ) LengthFault
-when_read mesh default (Err fault) = Err fault
-when_read mesh default (Ok named) = all_named mesh named (missing_edge default named.lines)
-
-abbrev pub behind_head : Mesh → Result Head LengthFault → Result (List ℕ) LengthFault
-behind_head mesh (Err fault) = Err fault
-behind_head mesh (Ok head) =
-    when_read mesh head.default (fold (name_line mesh) (Ok (none_named mesh head.default)) head.entries)
+missing_edge default lines = if is_some default then None else position (λ line. line == 0) lines
 
 -- the lengths that a text gives to the edges of a mesh, or the first fault
 abbrev pub lengths_in : Mesh → List ℕ → Result (List ℕ) LengthFault
-lengths_in mesh text = behind_head mesh (length_head (lines_of text))
+lengths_in mesh text = do
+  head ← length_head (lines_of text)
+  named ← fold (name_line mesh) (Ok (none_named mesh head.default)) head.entries
+  all_named mesh named (missing_edge head.default named.lines)

@@ -1,7 +1,8 @@
 -- What a line of a length file says.
-use Rattle.std.specs.Prelude.{ℕ, Bool, false, ◌&&◌, nat_le, List, [], ◌∷◌, codes, Option, Some, None, Result, Ok, Err}
+use Rattle.std.specs.Prelude.{ℕ, Bool, false, ◌&&◌, nat_le, List, [], ◌∷◌, codes, Option, Some, None, ok_or, Result, Ok}
 use Rattle.std.specs.Prelude.{if◌then◌else◌}
 use Rattle.std.specs.Str.{bytes_eq}
+use Rattle.surf_base.specs.Gives.{◌>>=◌}
 use Rattle.surf_text.specs.Text.{TextLine, tokens_of, whole}
 use Rattle.surf_surfaces.specs.Mesh.{Mesh, pair, among, edges}
 use Rattle.surf_surfaces.specs.Walk.{edge_number}
@@ -26,21 +27,16 @@ three_numbers _ = None
 abbrev pub edge_named : Mesh → ℕ → ℕ → Option ℕ
 edge_named mesh u v = if among (pair u v) (edges mesh) then Some (edge_number mesh (u, v)) else None
 
-abbrev pub on_edge : ℕ → ℕ → Option ℕ → Result (ℕ × ℕ) LengthFault
-on_edge line n None = Err (NotEdge line)
-on_edge line n (Some e) = Ok (e, n)
+-- a line with these numbers: the edge and its length, or the first of the faults Range and NotEdge
+abbrev pub of_numbers : Mesh → ℕ → ℕ × ℕ × ℕ → Result (ℕ × ℕ) LengthFault
+of_numbers mesh line x = do
+  n ← ok_or (as_length x.2) (Range line)
+  e ← ok_or (edge_named mesh x.0 x.1) (NotEdge line)
+  Ok (e, n)
 
-abbrev pub of_length : Mesh → ℕ → ℕ → ℕ → Option ℕ → Result (ℕ × ℕ) LengthFault
-of_length mesh line u v None = Err (Range line)
-of_length mesh line u v (Some n) = on_edge line n (edge_named mesh u v)
-
-abbrev pub of_numbers : Mesh → ℕ → Option (ℕ × ℕ × ℕ) → Result (ℕ × ℕ) LengthFault
-of_numbers mesh line None = Err (Form line)
-of_numbers mesh line (Some x) = of_length mesh line x.0 x.1 (as_length x.2)
-
--- a line `u v n`: the edge and its length, or the first of the faults Form, Range and NotEdge
+-- a line `u v n`, or the fault Form
 abbrev pub entry_of : Mesh → TextLine → Result (ℕ × ℕ) LengthFault
-entry_of mesh line = of_numbers mesh line.number (three_numbers (tokens_of line.bytes))
+entry_of mesh line = ok_or (three_numbers (tokens_of line.bytes)) (Form line.number) >>= of_numbers mesh line.number
 
 -- whether the first token is a word
 abbrev pub begins_with : List ℕ → List (List ℕ) → Bool
@@ -57,14 +53,8 @@ abbrev pub second_number : List (List ℕ) → Option ℕ
 second_number (word ∷ n ∷ []) = whole n
 second_number _ = None
 
-abbrev pub default_length : ℕ → Option ℕ → Result ℕ LengthFault
-default_length line None = Err (Range line)
-default_length line (Some n) = Ok n
-
-abbrev pub default_number : ℕ → Option ℕ → Result ℕ LengthFault
-default_number line None = Err (Form line)
-default_number line (Some n) = default_length line (as_length n)
-
 -- a line `default n`: the number, or the first of the faults Form and Range
 abbrev pub default_of : TextLine → Result ℕ LengthFault
-default_of line = default_number line.number (second_number (tokens_of line.bytes))
+default_of line = do
+  n ← ok_or (second_number (tokens_of line.bytes)) (Form line.number)
+  ok_or (as_length n) (Range line.number)

@@ -7,7 +7,7 @@ ghost use Rattle.surf_text.specs.Walks.{lines_ahead};
 ghost use Rattle.surf_surfaces.specs.Surface.{edge_count};
 ghost use Rattle.surf_lengths.specs.Files.{Head, Named, behind_version, length_head, name_line, none_named};
 ghost use Rattle.surf_base.specs.Gives.{Gives};
-ghost use Rattle.surf_lengths.specs.Files.{when_read, lengths_in};
+ghost use Rattle.surf_lengths.specs.Files.{all_named, missing_edge, lengths_in};
 ghost use Rattle.surf_lengths.specs.Naming.{IsFirstNaming, length_or, IsTableOf, AreNamed};
 ghost use Rattle.surf_lengths.specs.Walks.{GivesEntry};
 
@@ -197,8 +197,8 @@ fn complete(mesh: &HalfMesh, default: Option<u32>, table: &mut [u32]) -> Result<
     requires few { length table.old < 2 ^ 32 }
     requires positive { IfSome default (λ n. 1 ≤ n) }
     ensures complete { (named : Named) → IsTableOf mesh.now default named table.old →
-        MatchResult result (λ _. when_read mesh.now default (Ok named) ≡ Ok table.new)
-        (λ e. when_read mesh.now default (Ok named) ≡ Err e) }
+        MatchResult result (λ _. all_named mesh.now named (missing_edge default named.lines) ≡ Ok table.new)
+        (λ e. all_named mesh.now named (missing_edge default named.lines) ≡ Err e) }
     ensures some { OnOk result (All (λ n. n ≢ 0) table.new) }
     ensures sized { length table.new ≡ edge_count mesh.now }
 {

@@ -1,5 +1,5 @@
 //! What the lines of a length file say.
-ghost use Rattle.std.specs.Prelude.{◌≡◌, ◌<◌, ◌≤◌, false, Some, IfSome, IfOk, MatchOption};
+ghost use Rattle.std.specs.Prelude.{◌≡◌, ◌<◌, ◌≤◌, false, IfSome, IfOk, MatchOption};
 ghost use Rattle.std.specs.Str.{bytes_eq};
 ghost use Rattle.surf_text.specs.Text.{tokens_of};
 ghost use Rattle.surf_text.specs.Walks.{placed_line};
@@ -102,7 +102,7 @@ pub(crate) fn entry_with(
     numbers: (u64, u64, u64),
     expected: usize,
 ) -> Result<Entry, LengthFault>
-    ensures entry { Says result (of_numbers mesh.now line (Some numbers)) }
+    ensures entry { Says result (of_numbers mesh.now line numbers) }
     ensures line { IfOk result (λ x. x.line ≡ line) }
     ensures inside { IfOk result (λ x. x.edge < edge_count mesh.now) }
 {

@@ -1,6 +1,6 @@
 use Rattle.surf_surfaces.proofs.Common.{◌≡◌, ◌≢◌, ◌≤◌, eqb, ℕ, List, Option, Ok, Err, Result, All, sym, ap, subst, ◌∙◌, arith, ends}
 use Rattle.surf_text.proofs.Cuts.{found_is}
-use Rattle.surf_lengths.specs.Files.{all_named, missing_edge, when_read}
+use Rattle.surf_lengths.specs.Files.{all_named, missing_edge}
 use Rattle.surf_lengths.specs.Naming.{IsTableOf}
 use Rattle.surf_lengths.specs.declared.fault.LengthFault.{LengthFault}
 use Rattle.surf_lengths.specs.declared.fault.LengthFault.TheVariants.{Missing}
@@ -14,7 +14,7 @@ pub returns-in-Some-clause-complete : goal.returns-in-Some-clause-complete
 returns-in-Some-clause-complete c = λ named is.
     let mesh = c.args.mesh.now in
     let table = c.args.table.now in
-    subst (λ (d : Option ℕ). IsTableOf mesh d named table → when_read mesh d (Ok named) ≡ Ok c.fill.new.table) (sym c.in-Some.is)
+    subst (λ (d : Option ℕ). IsTableOf mesh d named table → all_named mesh named (missing_edge d named.lines) ≡ Ok c.fill.new.table) (sym c.in-Some.is)
     (λ t. complete_some mesh c.in-Some.n named table t ∙ ap (λ (xs : List ℕ). Ok xs) (sym c.fill.ensures.filled)) is
 
 pub returns-in-Some-clause-some : goal.returns-in-Some-clause-some
@@ -41,7 +41,7 @@ pub returns-clause-complete : goal.returns-clause-complete
 returns-clause-complete c = λ named is.
     let mesh = c.args.mesh.now in
     let table = c.args.table.now in
-    subst (λ (d : Option ℕ). IsTableOf mesh d named table → when_read mesh d (Ok named) ≡ Ok table) (sym c.in_default.is)
+    subst (λ (d : Option ℕ). IsTableOf mesh d named table → all_named mesh named (missing_edge d named.lines) ≡ Ok table) (sym c.in_default.is)
     (λ t. complete_none mesh named table t (sym c.in_default-first_unnamed.ensures.place)) is
 
 pub returns-clause-some : goal.returns-clause-some
