@@ -2,6 +2,7 @@
 use Rattle.std.proofs.Common.{◌≡◌, ◌<◌, ◌+◌, ◌^◌, ℕ, suc, true, false, List, [], ◌∷◌, ◌++◌, Option, Some, None, Ok, refl, sym, ◌∙◌, ap, append_assoc, append-nil, codes, inl, inr, arith}
 use Rattle.surf_surfaces.proofs.Common.{decimal, map, nat_le, nat_lt, ◌==◌, bytes_eq, cases_Bool, le-leb, lt-ltb, eq-eqb, bytes_eq-Decides}
 use Rattle.std.specs.List.{All}
+use Rattle.std.specs.Option.{option_map_or}
 use Rattle.std.proofs.lemmas.Fmt.{decimal_digit}
 use Rattle.surf_text.specs.Text.{whole}
 use Rattle.surf_off.proofs.Decimals.{IsWord, word_decimal, whole_decimal}
@@ -10,7 +11,7 @@ use Rattle.surf_cert.specs.Lines.{cert_number, the_word, base_of, base_at, paren
 use Rattle.surf_records.specs.Fits.{greatest, IsNumber, IsParent, IsPair, IsFaceRow, CycleFits}
 use Rattle.surf_cert.specs.Grammar.{next_of}
 use Rattle.surf_text.specs.Numbers.{numbers_text}
-use Rattle.surf_cert.specs.Written.{base_line, parent_text, vertex_line, face_line, pair_line, cycle_line}
+use Rattle.surf_cert.specs.Written.{base_line, vertex_line, face_line, pair_line, cycle_line}
 use Rattle.surf_cert.proofs.WordLines.{spaced, line_of, AllWords, line_again}
 
 small : (n : ℕ) → IsNumber n → n < 2 ^ 64
@@ -71,6 +72,10 @@ base_at_again x fits =
     let same : (x == x) ≡ true = eq-eqb x x refl in
     reads_words (base_at x) (base_line x) (codes "tree") (decimal x ∷ []) x (record { some = refl; dark = refl; one_line = refl; uncommented = refl }) (word x fits, tt) (rw (number_again x fits, same) refl) (rw (append-nil (decimal x)) refl)
 
+-- a parent, or `-` for none
+abbrev parent_text : Option ℕ → List ℕ
+parent_text p = option_map_or decimal p (codes "-")
+
 parent_word : (p : Option ℕ) → IsParent p → IsWord (parent_text p)
 parent_word None fits = dash
 parent_word (Some u) fits = word u fits
@@ -108,17 +113,17 @@ pair_again before (u, v) fits next =
     reads_words (pair_behind before) (pair_line (u, v)) (decimal u) (decimal v ∷ []) (u, v) (word u number_u) (word v fits.number, tt)
     (rw (number_again u number_u, number_again v fits.number, ordered, next) refl) (simp (append_assoc, append-nil))
 
-all_words : (ns : List ℕ) → All IsNumber ns → AllWords (map decimal ns)
+pub all_words : (ns : List ℕ) → All IsNumber ns → AllWords (map decimal ns)
 unfolding AllWords
 all_words [] fits = tt
 all_words (n ∷ ns) fits = (word n (fits 0 0 (omega arith)), all_words ns (λ k d lt. fits (suc k) d (omega arith)))
 
-all_numbers : (ns : List ℕ) → All IsNumber ns → numbers_of (map decimal ns) ≡ Some ns
+pub all_numbers : (ns : List ℕ) → All IsNumber ns → numbers_of (map decimal ns) ≡ Some ns
 unfolding numbers_of
 all_numbers [] fits = refl
 all_numbers (n ∷ ns) fits = rw (number_again n (fits 0 0 (omega arith)), all_numbers ns (λ k d lt. fits (suc k) d (omega arith))) refl
 
-numbers_spaced : (ns : List ℕ) → numbers_text ns ≡ spaced (map decimal ns)
+pub numbers_spaced : (ns : List ℕ) → numbers_text ns ≡ spaced (map decimal ns)
 numbers_spaced [] = refl
 numbers_spaced (n ∷ ns) = ap (λ (t : List ℕ). 32 ∷ (decimal n ++ t)) (numbers_spaced ns)
 

@@ -1,13 +1,19 @@
 -- The numbers of a line, one after the other.
 use Rattle.std.proofs.Common.{◌≡◌, ◌≢◌, ℕ, suc, List, [], ◌∷◌, ◌++◌, length, Option, Some, None, Result, Ok, Err, refl, sym, ◌∙◌, ap, append_assoc, append-nil, arith}
 use Rattle.surf_cert.specs.declared.fault.CertText.{CertText}
-use Rattle.surf_cert.specs.Grammar.{formed}
-use Rattle.surf_cert.specs.Lines.{cert_number, onto_numbers, numbers_of, cycle_of}
+use Rattle.std.specs.Prelude.{ok_or, option_map}
+use Rattle.std.specs.Option.{option_zip}
+use Rattle.surf_cert.specs.declared.fault.CertText.TheVariants.{Form}
+use Rattle.surf_cert.specs.Lines.{cert_number, numbers_of, cycle_of}
 
 -- the numbers that were read before, and those that are still read
 abbrev pub with_numbers : List ℕ → Option (List ℕ) → Option (List ℕ)
 with_numbers front None = None
 with_numbers front (Some ns) = Some (front ++ ns)
+
+-- a number in front of those behind it
+abbrev pub onto_numbers : Option ℕ → Option (List ℕ) → Option (List ℕ)
+onto_numbers n ns = option_map (λ x. x.0 ∷ x.1) (option_zip n ns)
 
 regroup : (front : List ℕ) (n : ℕ) (read : Option (List ℕ))
     → with_numbers front (onto_numbers (Some n) read) ≡ with_numbers (front ++ n ∷ []) read
@@ -63,7 +69,7 @@ given (Ok ns) = ns
 given (Err e) = []
 
 -- what a line gives
-pub formed_ok : (line : ℕ) (read : Option (List ℕ)) (ns : List ℕ) → formed line read ≡ Ok ns → read ≡ Some ns
+pub formed_ok : (line : ℕ) (read : Option (List ℕ)) (ns : List ℕ) → ok_or read (Form line) ≡ Ok ns → read ≡ Some ns
 unfolding given
 formed_ok line None ns is = absurd cc
 formed_ok line (Some ms) ns is = ap (λ r. Some (given r)) is

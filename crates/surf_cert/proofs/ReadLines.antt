@@ -1,19 +1,29 @@
 -- What was read of a line fits the lines of a text.
-use Rattle.surf_surfaces.proofs.Common.{◌≡◌, ◌<◌, ◌^◌, ℕ, suc, Bool, true, false, List, [], ◌∷◌, length, Option, Some, None, refl, ap, codes, inl, inr, arith, nat_le, nat_lt, ◌&&◌, ◌==◌, IfSome, bytes_eq, cases_Bool, leb-true, ltb-true, eqb-true, is_ascii_digit, All-nil, All-cons}
+use Rattle.surf_surfaces.proofs.Common.{◌≡◌, ◌<◌, ◌≤◌, ◌^◌, ℕ, suc, Bool, true, false, List, [], ◌∷◌, length, Option, Some, None, refl, ap, codes, inl, inr, arith, nat_le, nat_lt, ◌&&◌, ◌==◌, IfSome, bytes_eq, cases_Bool, leb-true, ltb-true, eqb-true, is_ascii_digit, All-nil, All-cons}
 use Rattle.std.specs.List.{All, list_all}
 use Rattle.surf_text.specs.Text.{is_nonempty, value_of, whole}
 use Rattle.surf_cert.specs.declared.line.Counts.{Counts}
-use Rattle.surf_cert.specs.Lines.{at_most_greatest, cert_number, three_counts, counts_of, if_same, base_of, base_at, some_parent, parent_of, with_parent, tree_row, below_root, dual_row, increasing, pair_of, is_next, if_next, pair_behind, onto_numbers, numbers_of, cycle_of}
+use Rattle.surf_cert.specs.Lines.{option_filter, cert_number, three_counts, counts_of, base_of, base_at, parent_of, tree_row, dual_row, pair_of, is_next, pair_behind, numbers_of, cycle_of}
+use Rattle.std.specs.Prelude.{option_map}
+use Rattle.std.specs.Option.{option_zip}
+use Rattle.surf_cert.proofs.Numbers.{onto_numbers}
 use Rattle.surf_records.specs.Fits.{greatest, IsNumber, IsParent, IsPair, IsFaceRow, CycleFits}
+
+-- what passes a test has what the test shows
+filter_fits : {A : Type 0} (test : A → Bool) (P Q : A → Type 0) → ((x : A) → test x ≡ true → P x → Q x) → (o : Option A)
+    → IfSome o P → IfSome (option_filter test o) Q
+filter_fits test P Q then None fits = tt
+filter_fits test P Q then (Some x) fits = elim (cases_Bool (test x)) [ inl passes ↦ rw passes (then x passes fits) | inr other ↦ rw other tt ]
+
+any_value : {A : Type 0} (o : Option A) → IfSome o (λ x. Unit {0})
+any_value None = tt
+any_value (Some x) = tt
 
 -- numbers
 
 pub number_fits : (token : List ℕ) → IfSome (cert_number token) IsNumber
-number_fits token = at (whole token)
-  where
-    at : (n : Option ℕ) → IfSome (at_most_greatest n) IsNumber
-    at None = tt
-    at (Some n) = elim (cases_Bool (nat_le n greatest)) [ inl low ↦ rw low (leb-true n greatest low) | inr high ↦ rw high tt ]
+number_fits token =
+    filter_fits (λ n. nat_le n greatest) (λ n. Unit {0}) IsNumber (λ n low any. leb-true n greatest low) (whole token) (any_value (whole token))
 
 second : (p q : Bool) → (p && q) ≡ true → q ≡ true
 second true q e = e
@@ -30,7 +40,7 @@ whole_fits token = elim (cases_Bool (is_nonempty token && list_all is_ascii_digi
 parent_fits : (token : List ℕ) → IfSome (parent_of token) IsParent
 parent_fits token = elim (cases_Bool (bytes_eq token (codes "-"))) [ inl is ↦ rw is tt | inr other ↦ rw other (at (cert_number token) (number_fits token)) ]
   where
-    at : (n : Option ℕ) → IfSome n IsNumber → IfSome (some_parent n) IsParent
+    at : (n : Option ℕ) → IfSome n IsNumber → IfSome (option_map (λ u. Some u) n) IsParent
     at None fits = tt
     at (Some n) fits = fits
 
@@ -43,50 +53,45 @@ row_fits (d ∷ []) = tt
 row_fits (d ∷ p ∷ []) = at (whole d) (parent_of p) (whole_fits d) (parent_fits p)
   where
     at : (d : Option ℕ) (p : Option (Option ℕ)) → IfSome d (λ n. n < 2 ^ 64) → IfSome p IsParent
-        → IfSome (with_parent d p) IsRow
+        → IfSome (option_zip d p) IsRow
     at None p small fits = tt
     at (Some d) None small fits = tt
     at (Some d) (Some p) small fits = (small, fits)
 row_fits (d ∷ p ∷ t ∷ ts) = tt
 
-side_fits : (d u v : Option ℕ) → IfSome d IsNumber → IfSome u IsNumber → IfSome v IsNumber
-    → IfSome (below_root d u v) IsFaceRow
-side_fits None u v fd fu fv = tt
-side_fits (Some d) None v fd fu fv = tt
-side_fits (Some d) (Some u) None fd fu fv = tt
-side_fits (Some d) (Some u) (Some v) fd fu fv = elim (cases_Bool (nat_le 1 d)) [
-  | inl low ↦ elim (cases_Bool (nat_lt u v)) [
-    | inl ordered ↦ rw (low, ordered) (leb-true 1 d low, fd, record { ordered = ltb-true u v ordered; number = fv })
-    | inr other ↦ rw (low, other) tt
-  ]
-  | inr other ↦ rw other tt
-]
+pub pair_fits : (tokens : List (List ℕ)) → IfSome (pair_of tokens) IsPair
+pair_fits [] = tt
+pair_fits (u ∷ []) = tt
+pair_fits (u ∷ v ∷ []) =
+    filter_fits (λ p. nat_lt p.0 p.1) (λ p. IsNumber p.1) IsPair (λ p less fits. record { ordered = ltb-true p.0 p.1 less; number = fits })
+    (option_zip (cert_number u) (cert_number v)) (at (cert_number u) (cert_number v) (number_fits v))
+  where
+    at : (u v : Option ℕ) → IfSome v IsNumber → IfSome (option_zip u v) (λ p. IsNumber p.1)
+    at None v fits = tt
+    at (Some u) None fits = tt
+    at (Some u) (Some v) fits = fits
+pair_fits (u ∷ v ∷ t ∷ ts) = tt
 
 pub face_fits : (tokens : List (List ℕ)) → IfSome (dual_row tokens) IsFaceRow
 face_fits [] = tt
 face_fits (d ∷ []) = tt
 face_fits (d ∷ u ∷ []) = elim (cases_Bool (bytes_eq d (codes "0") && bytes_eq u (codes "-"))) [ inl is ↦ rw is refl | inr other ↦ rw other tt ]
-face_fits (d ∷ u ∷ v ∷ []) = side_fits (cert_number d) (cert_number u) (cert_number v) (number_fits d) (number_fits u) (number_fits v)
-face_fits (d ∷ u ∷ v ∷ t ∷ ts) = tt
-
-pair_fits : (tokens : List (List ℕ)) → IfSome (pair_of tokens) IsPair
-pair_fits [] = tt
-pair_fits (u ∷ []) = tt
-pair_fits (u ∷ v ∷ []) = at (cert_number u) (cert_number v) (number_fits v)
+face_fits (d ∷ u ∷ v ∷ []) =
+    at (option_filter (nat_le 1) (cert_number d)) (pair_of (u ∷ v ∷ []))
+    (filter_fits (nat_le 1) IsNumber (λ d. (1 ≤ d) × IsNumber d) (λ d low fits. (leb-true 1 d low, fits)) (cert_number d) (number_fits d))
+    (pair_fits (u ∷ v ∷ []))
   where
-    at : (u v : Option ℕ) → IfSome v IsNumber → IfSome (increasing u v) IsPair
-    at None v fits = tt
-    at (Some u) None fits = tt
-    at (Some u) (Some v) fits = elim (cases_Bool (nat_lt u v)) [ inl ordered ↦ rw ordered (record { ordered = ltb-true u v ordered; number = fits }) | inr other ↦ rw other tt ]
-pair_fits (u ∷ v ∷ t ∷ ts) = tt
+    at : (d : Option ℕ) (p : Option (ℕ × ℕ)) → IfSome d (λ d. (1 ≤ d) × IsNumber d) → IfSome p IsPair
+        → IfSome (option_zip d (option_map (λ p. Some p) p)) IsFaceRow
+    at None p few fits = tt
+    at (Some d) None few fits = tt
+    at (Some d) (Some p) few fits = (few.0, few.1, fits)
+face_fits (d ∷ u ∷ v ∷ t ∷ ts) = tt
 
 pub behind_fits : (before : Option (ℕ × ℕ)) (tokens : List (List ℕ))
     → IfSome (pair_behind before tokens) (λ p. IsPair p × (is_next before p ≡ true))
-behind_fits before tokens = at (pair_of tokens) (pair_fits tokens)
-  where
-    at : (p : Option (ℕ × ℕ)) → IfSome p IsPair → IfSome (if_next before p) (λ p. IsPair p × (is_next before p ≡ true))
-    at None fits = tt
-    at (Some p) fits = elim (cases_Bool (is_next before p)) [ inl next ↦ rw next (fits, next) | inr other ↦ rw other tt ]
+behind_fits before tokens =
+    filter_fits (is_next before) IsPair (λ p. IsPair p × (is_next before p ≡ true)) (λ p next fits. (fits, next)) (pair_of tokens) (pair_fits tokens)
 
 all_fit : (tokens : List (List ℕ)) → IfSome (numbers_of tokens) (λ ns. (length ns ≡ length tokens) × All IsNumber ns)
 unfolding numbers_of
@@ -116,11 +121,8 @@ base_fits (w ∷ x ∷ []) = elim (cases_Bool (bytes_eq w (codes "tree"))) [ inl
 base_fits (w ∷ x ∷ t ∷ ts) = tt
 
 pub base_at_fits : (base : ℕ) (tokens : List (List ℕ)) → IfSome (base_at base tokens) (λ x. IsNumber x × (x ≡ base))
-base_at_fits base tokens = at (base_of tokens) (base_fits tokens)
-  where
-    at : (x : Option ℕ) → IfSome x IsNumber → IfSome (if_same base x) (λ x. IsNumber x × (x ≡ base))
-    at None fits = tt
-    at (Some x) fits = elim (cases_Bool (x == base)) [ inl same ↦ rw same (fits, eqb-true x base same) | inr other ↦ rw other tt ]
+base_at_fits base tokens =
+    filter_fits (λ y. y == base) IsNumber (λ x. IsNumber x × (x ≡ base)) (λ x same fits. (fits, eqb-true x base same)) (base_of tokens) (base_fits tokens)
 
 pub record AreCounts (counts : Counts) : Type 0 where
   pub vertices : IsNumber counts.vertices

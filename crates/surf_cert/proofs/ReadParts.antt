@@ -6,13 +6,15 @@ use Rattle.surf_surfaces.proofs.meshes.PairLaws.{pair_lt-trans}
 use Rattle.surf_text.specs.Text.{TextLine, tokens_of, lines_of}
 use Rattle.surf_records.specs.declared.cert.Cert.{Cert}
 use Rattle.surf_cert.specs.declared.fault.CertText.{CertText}
-use Rattle.surf_cert.specs.declared.fault.CertText.TheVariants.{Memory}
+use Rattle.surf_cert.specs.declared.fault.CertText.TheVariants.{Memory, Form, Trailing}
+use Rattle.surf_records.specs.declared.cert.Cert.TheVariants.{Loops, Basis}
+use Rattle.std.specs.Prelude.{ok_or}
 use Rattle.surf_cert.specs.declared.line.Counts.{Counts}
 use Rattle.surf_validity.specs.Rows.{TreeRows, DualRows, LoopCert, BasisCert}
 use Rattle.surf_cert.specs.Lines.{is_header, counts_of, base_of, base_at, tree_row, dual_row, is_next, pair_behind, cycle_of, the_word}
 use Rattle.surf_records.specs.Fits.{IsNumber, IsParent, IsPair, IsFaceRow, TreeFits, DualFits, LeftFits, CycleFits, LoopFits, BasisFits, CertFits}
 use Rattle.surf_base.specs.Gives.{Gives, ◌>>=◌}
-use Rattle.surf_cert.specs.Grammar.{formed, and_lines, next_of, onto_rows, rows_of, pairs_of, tree_of, based_tree, trees_of, dual_rows_of, dual_of, left_of, cycles_of, cert_ended, loops_in, basis_in, as_loops, as_basis, cert_in, parsed_cert}
+use Rattle.surf_cert.specs.Grammar.{next_of, onto_rows, rows_of, pairs_of, tree_of, based_tree, trees_of, dual_rows_of, dual_of, left_of, cycles_of, ended, loops_in, basis_in, cert_in, parsed_cert}
 use Rattle.surf_cert.proofs.Reread.{Follow}
 use Rattle.surf_cert.proofs.ReadLines.{IsRow, row_fits, face_fits, behind_fits, cycle_fits, base_fits, base_at_fits, AreCounts, counts_fit}
 
@@ -30,7 +32,7 @@ unfolding next_of
 next_fits form Good fits [] = tt
 next_fits {A} form Good fits (line ∷ lines) = at (form (tokens_of line.bytes)) (fits (tokens_of line.bytes))
   where
-    at : (x : Option A) → IfSome x Good → IfOk (and_lines lines (formed line.number x)) (λ x. Good x.0)
+    at : (x : Option A) → IfSome x Good → IfOk {T = A × List TextLine} (ok_or x (Form line.number) >>= λ x. Ok (x, lines)) (λ x. Good x.0)
     at None good = tt
     at (Some x) good = good
 
@@ -191,7 +193,7 @@ cycles_fit k lines =
     bind_fits (next_of (the_word (codes "cycles")) lines) (λ word. rows_of cycle_of k word.1) (λ word. Unit {0}) (λ x. (length x.0 ≡ k) × All CycleFits x.0) (next_fits (the_word (codes "cycles")) (λ word. Unit {0}) (word_fits (codes "cycles")) lines)
     (λ word good. rows_fit cycle_of CycleFits cycle_fits k word.1)
 
-ended_fits : {A : Type 0} (x : A) (lines : List TextLine) (P : A → Type 0) → P x → IfOk (cert_ended x lines) P
+ended_fits : {A : Type 0} (x : A) (lines : List TextLine) (P : A → Type 0) → P x → IfOk (ended Trailing lines x) P
 ended_fits x [] P fits = fits
 ended_fits x (line ∷ lines) P fits = tt
 
@@ -261,11 +263,11 @@ cert_fits (line ∷ lines) = elim (cases_Bool (is_header (codes "loops") (tokens
   ]
 ]
   where
-    at_loops : (read : Result LoopCert CertText) → IfOk read LoopFits → IfOk (as_loops read) CertFits
+    at_loops : (read : Result LoopCert CertText) → IfOk read LoopFits → IfOk {T = Cert} (read >>= λ cert. Ok (Loops cert)) CertFits
     at_loops (Ok cert) fits = fits
     at_loops (Err e) fits = tt
 
-    at_basis : (read : Result BasisCert CertText) → IfOk read BasisFits → IfOk (as_basis read) CertFits
+    at_basis : (read : Result BasisCert CertText) → IfOk read BasisFits → IfOk {T = Cert} (read >>= λ cert. Ok (Basis cert)) CertFits
     at_basis (Ok cert) fits = fits
     at_basis (Err e) fits = tt
 

@@ -1,7 +1,7 @@
 -- The texts of certificates, over the list of lines that have a token. A line has exactly the tokens that its form
 -- shows. The first line that doesn't fit decides.
 use Rattle.std.specs.Prelude.{◌+◌, ℕ, zero, suc, List, [], ◌∷◌, codes, map, Option, Some, None, Result, Ok, Err}
-use Rattle.std.specs.Prelude.{if◌then◌else◌}
+use Rattle.std.specs.Prelude.{if◌then◌else◌, ok_or}
 use Rattle.surf_base.specs.Gives.{◌>>=◌}
 use Rattle.surf_text.specs.Text.{TextLine, tokens_of, lines_of}
 use Rattle.surf_validity.specs.Rows.{TreeRows, DualRows, LoopCert, BasisCert}
@@ -20,19 +20,10 @@ LineForm A = List (List ℕ) → Option A
 abbrev pub Read : Type 0 → Type 0
 Read A = Result (A × List TextLine) CertText
 
--- A line that has its form gives a value.
-abbrev pub formed : {A : Type 0} → ℕ → Option A → Result A CertText
-formed line None = Err (Form line)
-formed line (Some x) = Ok x
-
-abbrev pub and_lines : {A : Type 0} → List TextLine → Result A CertText → Read A
-and_lines lines (Ok x) = Ok (x, lines)
-and_lines lines (Err e) = Err e
-
 -- the next line, which has a form, and the lines behind it
 unfoldable pub next_of : {A : Type 0} → LineForm A → List TextLine → Read A
 next_of form [] = Err Early
-next_of form (line ∷ lines) = and_lines lines (formed line.number (form (tokens_of line.bytes)))
+next_of form (line ∷ lines) = ok_or (form (tokens_of line.bytes)) (Form line.number) >>= λ x. Ok (x, lines)
 
 -- a row in front of those that are read behind it
 abbrev pub onto_rows : {A : Type 0} → A → Read (List A) → Read (List A)
@@ -80,10 +71,10 @@ left_of k lines = next_of (the_word (codes "left")) lines >>= λ word. pairs_of 
 unfoldable pub cycles_of : ℕ → List TextLine → Read (List (List ℕ))
 cycles_of k lines = next_of (the_word (codes "cycles")) lines >>= λ word. rows_of cycle_of k word.1
 
--- No line stands behind.
-abbrev pub cert_ended : {A : Type 0} → A → List TextLine → Result A CertText
-cert_ended x [] = Ok x
-cert_ended x (line ∷ lines) = Err (Trailing line.number)
+-- Where no line stands behind, this is what was read. Else it is a fault, at the first line there.
+abbrev pub ended : {A F : Type 0} → (ℕ → F) → List TextLine → A → Result A F
+ended fault [] x = Ok x
+ended fault (line ∷ lines) x = Err (fault line.number)
 
 -- a loop certificate, behind its first line
 unfoldable pub loops_in : List TextLine → Result LoopCert CertText
@@ -92,7 +83,7 @@ loops_in lines = do
   tree ← based_tree base_of counts.0.vertices counts.1
   dual ← dual_of counts.0.faces tree.1
   left ← left_of counts.0.left dual.1
-  cert_ended (record { tree = tree.0; dual = dual.0; left = left.0 }) left.1
+  ended Trailing left.1 (record { tree = tree.0; dual = dual.0; left = left.0 })
 
 -- a basis certificate, behind its first line
 unfoldable pub basis_in : List TextLine → Result BasisCert CertText
@@ -102,22 +93,14 @@ basis_in lines = do
   dual ← dual_of counts.0.faces trees.1
   left ← left_of counts.0.left dual.1
   cycles ← cycles_of counts.0.left left.1
-  cert_ended (record { trees = trees.0; dual = dual.0; left = left.0; cycles = cycles.0 }) cycles.1
-
-abbrev pub as_loops : Result LoopCert CertText → Result Cert CertText
-as_loops (Ok cert) = Ok (Loops cert)
-as_loops (Err e) = Err e
-
-abbrev pub as_basis : Result BasisCert CertText → Result Cert CertText
-as_basis (Ok cert) = Ok (Basis cert)
-as_basis (Err e) = Err e
+  ended Trailing cycles.1 (record { trees = trees.0; dual = dual.0; left = left.0; cycles = cycles.0 })
 
 -- The first line says of which kind a certificate is.
 unfoldable pub cert_in : List TextLine → Result Cert CertText
 cert_in [] = Err (Header 0)
 cert_in (line ∷ lines) =
-    if is_header (codes "loops") (tokens_of line.bytes) then as_loops (loops_in lines)
-    else (if is_header (codes "basis") (tokens_of line.bytes) then as_basis (basis_in lines)
+    if is_header (codes "loops") (tokens_of line.bytes) then (loops_in lines >>= λ cert. Ok (Loops cert))
+    else (if is_header (codes "basis") (tokens_of line.bytes) then (basis_in lines >>= λ cert. Ok (Basis cert))
     else Err (Header line.number))
 
 -- the certificate that a text is, or its first fault

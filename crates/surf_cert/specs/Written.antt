@@ -1,6 +1,7 @@
 -- The texts of certificates.
-use Rattle.std.specs.Prelude.{◌≡◌, ℕ, List, [], ◌∷◌, ◌++◌, length, flat_map, codes, decimal, Option, Some, None, Ok}
+use Rattle.std.specs.Prelude.{◌≡◌, ℕ, List, [], ◌∷◌, ◌++◌, length, flat_map, codes, decimal, Option, Ok}
 use Rattle.std.specs.List.{zip}
+use Rattle.std.specs.Option.{option_map_or}
 use Rattle.surf_validity.specs.Rows.{TreeRows, DualRows, LoopCert, BasisCert}
 use Rattle.surf_cert.specs.Grammar.{parsed_cert}
 use Rattle.surf_records.specs.declared.cert.Cert.TheVariants.{Loops, Basis}
@@ -15,26 +16,16 @@ cert_head_text word v f k =
 abbrev pub base_line : ℕ → List ℕ
 base_line x = codes "tree " ++ (decimal x ++ codes "\n")
 
--- a parent, or `-` for none
-abbrev pub parent_text : Option ℕ → List ℕ
-parent_text None = codes "-"
-parent_text (Some u) = decimal u
-
--- the distance and the parent of a vertex
+-- the distance and the parent of a vertex, or `-` for none
 abbrev pub vertex_line : ℕ × Option ℕ → List ℕ
-vertex_line row = decimal row.0 ++ (codes " " ++ (parent_text row.1 ++ codes "\n"))
+vertex_line row = decimal row.0 ++ (codes " " ++ (option_map_or decimal row.1 (codes "-") ++ codes "\n"))
 
 abbrev pub pair_text : ℕ × ℕ → List ℕ
 pair_text pair = decimal pair.0 ++ (codes " " ++ decimal pair.1)
 
--- a side, or `-` for none
-abbrev pub side_text : Option (ℕ × ℕ) → List ℕ
-side_text None = codes "-"
-side_text (Some pair) = pair_text pair
-
--- the depth and the side of a face
+-- the depth and the side of a face, or `-` for none
 abbrev pub face_line : ℕ × Option (ℕ × ℕ) → List ℕ
-face_line row = decimal row.0 ++ (codes " " ++ (side_text row.1 ++ codes "\n"))
+face_line row = decimal row.0 ++ (codes " " ++ (option_map_or pair_text row.1 (codes "-") ++ codes "\n"))
 
 abbrev pub pair_line : ℕ × ℕ → List ℕ
 pair_line pair = decimal pair.0 ++ (codes " " ++ (decimal pair.1 ++ codes "\n"))

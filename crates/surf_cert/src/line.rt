@@ -1,9 +1,9 @@
 //! What the lines of a certificate say.
-ghost use Rattle.std.specs.Prelude.{◌≡◌};
+ghost use Rattle.std.specs.Prelude.{◌≡◌, [], ◌∷◌};
 ghost use Rattle.std.specs.Str.{bytes_eq};
 ghost use Rattle.surf_text.specs.Text.{tokens_of};
 ghost use Rattle.surf_cert.specs.Lines.{cert_number, is_word, is_header, counts_of, base_of, base_at, parent_of};
-ghost use Rattle.surf_cert.specs.Lines.{tree_row, below_root, dual_row, pair_of, is_next, pair_behind};
+ghost use Rattle.surf_cert.specs.Lines.{tree_row, dual_row, pair_of, is_next, pair_behind};
 
 use surf_base::VertexId;
 use surf_text::{Tokens, read_whole};
@@ -149,8 +149,7 @@ pub(crate) fn read_tree_row(line: &[u8]) -> Option<(u64, Option<VertexId>)>
 
 // A depth of at least 1, and a side with its lesser end first.
 fn read_below_root(depth: &[u8], u: &[u8], v: &[u8]) -> Option<(u32, Option<(VertexId, VertexId)>)>
-    ensures row { result ≡ below_root (cert_number depth.now) (cert_number u.now)
-        (cert_number v.now) }
+    ensures row { result ≡ dual_row (depth.now ∷ u.now ∷ v.now ∷ []) }
 {
     let depth = read_number(depth)?;
     let u = read_number(u)?;

@@ -1,9 +1,11 @@
 //! The next line of a text, which has a form.
+ghost use Rattle.std.specs.Prelude.{ok_or};
 ghost use Rattle.surf_text.specs.Text.{tokens_of};
 ghost use Rattle.surf_text.specs.Walks.{text_line};
 ghost use Rattle.surf_cert.specs.Lines.{counts_of, base_of, base_at, tree_row, dual_row, pair_behind, the_word};
 ghost use Rattle.surf_cert.specs.Lines.{numbers_of, cycle_of};
-ghost use Rattle.surf_cert.specs.Grammar.{next_of, formed};
+ghost use Rattle.surf_cert.specs.Grammar.{next_of};
+ghost use Rattle.surf_cert.specs.declared.fault.CertText.TheVariants.{Form};
 ghost use Rattle.surf_base.specs.Gives.{Gives};
 
 use crate::fault::CertText;
@@ -95,7 +97,7 @@ pub(crate) fn next_pair(
 // The numbers of a line, as vertices.
 fn read_vertices(alloc: Global, line: &Line<'_>) -> Result<Vec<VertexId>, CertText>
     ensures vertices { Gives CertText.Memory (λ x. x.items) result
-        (formed (text_line line.now).number (numbers_of (tokens_of (text_line line.now).bytes))) }
+        (ok_or (numbers_of (tokens_of (text_line line.now).bytes)) (Form (text_line line.now).number)) }
 {
     let mut vertices = Vec::new(alloc);
     let mut tokens = Tokens::over(line.bytes);
@@ -110,8 +112,8 @@ fn read_vertices(alloc: Global, line: &Line<'_>) -> Result<Vec<VertexId>, CertTe
 
 // The vertices of a line, which has at least one.
 fn read_cycle(alloc: Global, line: &Line<'_>) -> Result<Walk, CertText>
-    ensures cycle { Gives CertText.Memory (λ x. x) result (formed (text_line line.now).number
-        (cycle_of (tokens_of (text_line line.now).bytes))) }
+    ensures cycle { Gives CertText.Memory (λ x. x) result (ok_or
+        (cycle_of (tokens_of (text_line line.now).bytes)) (Form (text_line line.now).number)) }
 {
     let vertices = read_vertices(alloc, line)?;
     if vertices.is_empty() {

@@ -1,7 +1,8 @@
 //! Reads the text of a certificate.
 ghost use Rattle.std.specs.Prelude.{◌<◌, length, IfOk};
 ghost use Rattle.surf_records.specs.Fits.{CertFits};
-ghost use Rattle.surf_cert.specs.Grammar.{loops_in, basis_in, cert_ended, parsed_cert};
+ghost use Rattle.surf_cert.specs.Grammar.{loops_in, basis_in, ended, parsed_cert};
+ghost use Rattle.surf_cert.specs.declared.fault.CertText.TheVariants.{Trailing};
 ghost use Rattle.surf_base.specs.Gives.{Gives};
 
 use crate::fault::CertText;
@@ -14,7 +15,7 @@ use surf_text::Lines;
 
 // No line stands behind.
 fn read_end(lines: &mut Lines<'_>) -> Result<(), CertText>
-    ensures end { Gives CertText.Memory (λ x. x) result (cert_ended tt lines.old) }
+    ensures end { Gives CertText.Memory (λ x. x) result (ended Trailing lines.old tt) }
 {
     match lines.next_line() {
         Some(line) => Err(CertText::Trailing { line: line.number }),

@@ -2,11 +2,12 @@
 use Rattle.surf_surfaces.proofs.Common.{◌≡◌, ◌≢◌, ◌≤◌, ◌<◌, ◌+◌, ◌*◌, ◌^◌, ◌++◌, ℕ, List, [], ◌∷◌, length, get_or, Option, Some, None, arith, eqb-true, length-append, Mesh, length-decimal-le, recursion_from_All, All-tail, length-le_from_distinct_below, IsSimpleCycle}
 use Rattle.std.specs.Prelude.{◌==◌, codes, decimal, flat_map}
 use Rattle.std.specs.List.{All, AllPairs, AllByRecursion, zip}
+use Rattle.std.specs.Option.{option_map_or}
 use Rattle.std.proofs.lemmas.Bool.Decides.{Decides-eqb}
 use Rattle.std.proofs.lemmas.Map.Made.{IsDistinct-from_AllPairs}
 use Rattle.surf_records.specs.Fits.{IsNumber, IsParent, TreeFits, IsPair, IsFaceRow, DualFits, LeftFits, LoopFits, BasisFits}
 use Rattle.surf_text.specs.Numbers.{numbers_text}
-use Rattle.surf_cert.specs.Written.{cert_head_text, base_line, parent_text, vertex_line, pair_text, face_line, pair_line, cycle_line, tree_text, dual_text, left_text, cycles_text, loop_text, basis_text}
+use Rattle.surf_cert.specs.Written.{cert_head_text, base_line, vertex_line, pair_text, face_line, pair_line, cycle_line, tree_text, dual_text, left_text, cycles_text, loop_text, basis_text}
 use Rattle.surf_surfaces.proofs.meshes.EdgeLaws.{list_any_at}
 use Rattle.surf_validity.specs.Rows.{TreeRows, DualRows, LoopCert, BasisCert}
 
@@ -42,7 +43,7 @@ numbers_short (n ∷ ns) all =
 
 -- ---- a tree of the vertices
 
-parent_short : (p : Option ℕ) → IsParent p → length (parent_text p) ≤ 10
+parent_short : (p : Option ℕ) → IsParent p → length (option_map_or decimal p (codes "-")) ≤ 10
 parent_short None is = omega arith
 parent_short (Some u) is = number_short u is
 
@@ -53,7 +54,7 @@ vertices_short [] ps whole parents = omega arith
 vertices_short (d ∷ ds) [] whole parents = omega arith
 vertices_short (d ∷ ds) (p ∷ ps) whole parents =
     let all = length-append (vertex_line (d, p)) (flat_map vertex_line (zip ds ps)) in
-    let line = length_of_four (decimal d) (codes " ") (parent_text p) (codes "\n") in
+    let line = length_of_four (decimal d) (codes " ") (option_map_or decimal p (codes "-")) (codes "\n") in
     let distance = whole_short d whole.0 in
     let parent = parent_short p parents.0 in
     let rest = vertices_short ds ps whole.1 parents.1 in

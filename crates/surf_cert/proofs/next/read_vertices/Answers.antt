@@ -1,5 +1,6 @@
 use Rattle.std.proofs.Common.{◌∙◌, sym, ap, ℕ, List, Option}
-use Rattle.surf_cert.specs.Grammar.{formed}
+use Rattle.std.specs.Prelude.{ok_or}
+use Rattle.surf_cert.specs.declared.fault.CertText.TheVariants.{Form}
 use Rattle.surf_cert.specs.Lines.{numbers_of}
 use Rattle.surf_cert.proofs.Numbers.{with_numbers, number_more, number_bad, numbers_done}
 use Rattle.surf_cert.proofs.next.read_vertices.Goals as goal
@@ -7,7 +8,7 @@ use Rattle.surf_cert.proofs.next.read_vertices.Goals as goal
 pub returns-in_default-read_number : goal.returns-in_default-read_number
 returns-in_default-read_number c =
     let none = number_bad c.loop-token.vertices.items c.loop-token.tokens.tokens _ c.loop-token.invariant c.in-Some.token.now c.next_token.new.self.tokens c.in-Some.ensures.next (sym c.read_number.ensures.number ∙ c.in_default-read_number.is) in
-    record { vertices = λ other. ap (λ (ns : Option (List ℕ)). formed c.args.line.now.number ns) none }
+    record { vertices = λ other. ap (λ (ns : Option (List ℕ)). ok_or ns (Form c.args.line.now.number)) none }
 
 pub loop-token-preserved : goal.loop-token-preserved
 loop-token-preserved c =
@@ -17,4 +18,4 @@ loop-token-preserved c =
 pub returns : goal.returns
 returns c =
     let all = numbers_done c.loop-token.vertices.items c.loop-token.tokens.tokens _ c.loop-token.invariant c.in_default.ensures.next.0 in
-    record { vertices = ap (λ (ns : Option (List ℕ)). formed c.args.line.now.number ns) all }
+    record { vertices = ap (λ (ns : Option (List ℕ)). ok_or ns (Form c.args.line.now.number)) all }
