@@ -1,19 +1,10 @@
 -- Certificates of the choice as answers.
-use Rattle.surf_surfaces.proofs.Common.{◌≡◌, ℕ, List, length, Result, Ok, Err, subst, Mesh, IsSurface, edge_count}
-use Rattle.std.specs.Result.{IfOk}
+use Rattle.surf_answers.proofs.Common.{◌≡◌, ℕ, List, length, Result, Ok, Err, subst, Mesh, IsSurface, edge_count, IfOk, loop_text, basis_text, AreLengths, lengths_positive, LoopTables, IsGreedy, trees_of, chosen_cert, IsTheLoopCert, GivesLoopCert, GivesBasisCert, Outcome, Says}
 use Rattle.surf_basis.specs.Certs.{IsTheCert}
-use Rattle.surf_cert.specs.Written.{loop_text, basis_text}
-use Rattle.surf_lengths.specs.Lengths.{AreLengths}
-use Rattle.surf_lengths.proofs.Positive.{lengths_positive}
 use Rattle.surf_surfaces.proofs.bases.BasisLaws.{basis_is_least}
-use Rattle.surf_loops.specs.Loops.{LoopTables, IsGreedy, trees_of}
 use Rattle.surf_validity.specs.Rows.{LoopCert, BasisCert}
 use Rattle.surf_validity.specs.Bases.{IsValidBasis}
-use Rattle.surf_validity.specs.Chosen.{chosen_cert}
 use Rattle.surf_validity.specs.Valid.{IsValidLoops}
-use Rattle.surf_answers.specs.Certificates.{IsTheLoopCert, GivesLoopCert, GivesBasisCert}
-use Rattle.surf_texts.specs.Outcome.{Outcome}
-use Rattle.surf_answers.specs.Says.{Says}
 
 -- the certificate of the loops that a desk has, where a call gives one
 pub is_the_loop_cert : {E : Type 0} (mesh : Mesh) (lengths : List ℕ) (base : ℕ) (t : LoopTables) (result : Result LoopCert E) →

@@ -1,11 +1,5 @@
 -- What is known of a desk with the trees that are chosen at vertex 0.
-use Rattle.surf_surfaces.proofs.Common.{◌≡◌, ℕ, List, length, sym, ap, subst, arith, replicate, cells_of, AreChosenAt, split_of, Mesh, edge_count, loop_count, IsSplit, Split, Tree, Chain}
-use Rattle.surf_classes.specs.Evidence.{Evidence, IsChosen, IsClassEvidence}
-use Rattle.surf_cotree.specs.Grown.{IsMarked}
-use Rattle.surf_cotree.specs.Tables.{CotreeTables, split_with, cotree_of}
-use Rattle.surf_loops.specs.Loops.{LoopTables, IsGreedy, trees_of}
-use Rattle.surf_tree.specs.Tables.{tree_of}
-use Rattle.surf_answers.specs.ChosenDesks.{IsChosenDesk}
+use Rattle.surf_answers.proofs.Common.{◌≡◌, ℕ, List, length, sym, ap, subst, arith, replicate, cells_of, AreChosenAt, split_of, Mesh, edge_count, loop_count, IsSplit, Split, Tree, Chain, Evidence, IsChosen, IsClassEvidence, IsMarked, CotreeTables, split_with, cotree_of, LoopTables, IsGreedy, trees_of, tree_of, IsChosenDesk}
 
 module _ (mesh : Mesh) (lengths : List ℕ) (t : LoopTables) (greedy : IsGreedy mesh lengths 0 t) where
   abbrev tree : Tree

@@ -1,17 +1,7 @@
 -- The trees of a loop desk, and what is opened along the cut that they give.
-use Rattle.surf_surfaces.proofs.Common.{◌≡◌, ℕ, ◌<◌, List, [], length, get_or, refl, sym, ap, ◌∙◌, subst, All, length-map, get_or-map, get_or_default, Mesh, IsFace, face_at, IsSurface, All-get_or, All-from_get_or}
+use Rattle.surf_answers.proofs.Common.{◌≡◌, ℕ, ◌<◌, List, [], length, get_or, refl, sym, ap, ◌∙◌, subst, All, length-map, get_or-map, get_or_default, Mesh, IsFace, face_at, IsSurface, All-get_or, All-from_get_or, AreDivided, tree_of, IsMarked, cotree_of, LoopTables, IsGreedy, trees_of, Kind, full, trimmed, through, points_of, IsOpeningOf, OpenMesh, IsHeld, IsChosenFor, IsNearFor, outcome_of, near_cause, IsCutAt, IsNearAt}
 use Rattle.surf_opening.specs.Opening.{IsOpenedBy}
-use Rattle.surf_opening.specs.ChosenCut.{AreDivided}
-use Rattle.surf_tree.specs.Tables.{tree_of}
-use Rattle.surf_cotree.specs.Grown.{IsMarked}
-use Rattle.surf_cotree.specs.Tables.{cotree_of}
-use Rattle.surf_loops.specs.Loops.{LoopTables, IsGreedy, trees_of}
-use Rattle.surf_cutter.specs.Kinds.{Kind, full, trimmed, through, points_of, IsOpeningOf}
-use Rattle.surf_cutter.specs.Opened.{OpenMesh, IsHeld, IsChosenFor, IsNearFor}
 use Rattle.surf_cutter.proofs.Chosen.{grown_is_held, kinds_are_openings, points_on_border}
-use Rattle.surf_texts.specs.Cause.{outcome_of}
-use Rattle.surf_texts.specs.PointLines.{near_cause}
-use Rattle.surf_answers.specs.Cuts.{IsCutAt, IsNearAt}
 
 -- the vertex of each copy is one of the surface
 origins_inside : {mesh : Mesh} {IsUncut : ℕ → ℕ → Type 0} {origins : List ℕ} {faces : List (List ℕ)} → IsSurface mesh →

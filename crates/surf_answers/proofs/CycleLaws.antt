@@ -1,9 +1,5 @@
 -- The texts of cycles.
-use Rattle.surf_surfaces.proofs.Common.{◌≡◌, List, [], ◌∷◌, ◌++◌, length, map, refl, ap, ◌∙◌, arith, sum, flat_map}
-use Rattle.surf_basis.specs.Cycles.{as_loops}
-use Rattle.surf_basis.specs.declared.cycle.Cycle.{Cycle}
-use Rattle.surf_texts.specs.MeasuredTexts.{measured_line, total_lines, measured_text}
-use Rattle.surf_answers.specs.CycleTexts.{cycle_found_line}
+use Rattle.surf_answers.proofs.Common.{◌≡◌, List, [], ◌∷◌, ◌++◌, length, map, refl, ap, ◌∙◌, arith, sum, flat_map, as_loops, Cycle, measured_line, total_lines, measured_text, cycle_found_line}
 
 pub as_long : (cs : List Cycle) → map (λ c. c.size) (as_loops cs) ≡ map (λ c. c.length) cs
 as_long [] = refl

@@ -1,18 +1,6 @@
 -- What is found of the cycles of a surface, as answers.
-use Rattle.surf_surfaces.proofs.Common.{◌≡◌, ℕ, List, length, Option, Some, None, inl, inr, refl, subst, IfSome, ◌↔◌, Mesh, IsSurface, edge_count, Trees, AreChosen, Loop, candidates, IsChosenBasis, ArePositive, LeastSimpleBasis}
-use Rattle.surf_surfaces.proofs.bases.ChoiceExists.{choice_exists}
+use Rattle.surf_answers.proofs.Common.{◌≡◌, ℕ, List, length, Option, Some, None, inl, inr, refl, subst, IfSome, ◌↔◌, Mesh, IsSurface, edge_count, Trees, AreChosen, Loop, candidates, IsChosenBasis, ArePositive, LeastSimpleBasis, choice_exists, AreLengths, lengths_positive, as_loop, IsTheBasis, IsFirstCandidate, IsShortestCycle, AllSeparate, Cycle, measured_text, found_text, GivesBasis, Outcome, Says, GivesCycle, first_listed}
 use Rattle.surf_surfaces.proofs.walks.ShortestWalkLaws.{first_of_basis_is_shortest_not_null, shortest_not_null_is_nonseparating}
-use Rattle.surf_lengths.specs.Lengths.{AreLengths}
-use Rattle.surf_lengths.proofs.Positive.{lengths_positive}
-use Rattle.surf_basis.specs.Cycles.{as_loop, IsTheBasis, IsFirstCandidate, IsShortestCycle, AllSeparate}
-use Rattle.surf_basis.specs.declared.cycle.Cycle.{Cycle}
-use Rattle.surf_texts.specs.MeasuredTexts.{measured_text}
-use Rattle.surf_answers.specs.CycleTexts.{found_text}
-use Rattle.surf_answers.specs.LeastBasis.{GivesBasis}
-use Rattle.surf_texts.specs.Outcome.{Outcome}
-use Rattle.surf_answers.specs.Says.{Says}
-use Rattle.surf_answers.specs.ShortestCycle.{GivesCycle}
-use Rattle.surf_basis.proofs.First.{first_listed}
 
 module _ (mesh : Mesh) (lengths : List ℕ) (surface : IsSurface mesh) (are : AreLengths lengths) (sized : length lengths ≡ edge_count mesh) where
   long : ArePositive mesh lengths

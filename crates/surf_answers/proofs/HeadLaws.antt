@@ -1,14 +1,6 @@
 -- The text of a desk's loops is that of the loops that are chosen.
-use Rattle.surf_surfaces.proofs.Common.{◌≡◌, ℕ, ◌<◌, List, [], ◌∷◌, ◌++◌, length, map, refl, sym, ap, ◌∙◌, subst, arith, All, sum, AllByRecursion, flat_map, All-from_recursion, Mesh, edge_count, Loop, loops_at}
+use Rattle.surf_answers.proofs.Common.{◌≡◌, ℕ, ◌<◌, List, [], ◌∷◌, ◌++◌, length, map, refl, sym, ap, ◌∙◌, subst, arith, All, sum, AllByRecursion, flat_map, All-from_recursion, Mesh, edge_count, Loop, loops_at, LoopTables, IsGreedy, loop_of, trees_of, LoopHead, measured_line, total_lines, measured_text, head_line, heads_text, GivesLoops, Says, total_size, Outcome}
 use Rattle.surf_surfaces.proofs.bases.LoopsAtLaws.{IsLoopAt, loops_each}
-use Rattle.surf_loops.specs.Loops.{LoopTables, IsGreedy, loop_of, trees_of}
-use Rattle.surf_loops.specs.declared.head.LoopHead.{LoopHead}
-use Rattle.surf_texts.specs.MeasuredTexts.{measured_line, total_lines, measured_text}
-use Rattle.surf_answers.specs.HeadTexts.{head_line, heads_text}
-use Rattle.surf_answers.specs.LeastLoops.{GivesLoops}
-use Rattle.surf_answers.specs.Says.{Says}
-use Rattle.surf_answers.specs.Summaries.{total_size}
-use Rattle.surf_texts.specs.Outcome.{Outcome}
 
 module _ (mesh : Mesh) (t : LoopTables) where
   as_many : (heads : List LoopHead) → length (map (loop_of mesh t) heads) ≡ length heads

@@ -1,3 +1,4 @@
+pub mod Common
 mod CertifyLaws
 mod CopyLines
 mod CutLaws

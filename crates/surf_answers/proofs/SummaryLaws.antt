@@ -1,14 +1,5 @@
 -- What is found on a surface, as an answer.
-use Rattle.surf_surfaces.proofs.Common.{◌≡◌, ℕ, List, length, Some, inl, inr, sym, ap, Mesh, IsSurface, edge_count, Trees, AreChosen, Loop, candidates, LeastSimpleBasis}
-use Rattle.surf_surfaces.proofs.bases.ChoiceExists.{choice_exists}
-use Rattle.surf_lengths.specs.Lengths.{AreLengths}
-use Rattle.surf_lengths.proofs.Positive.{lengths_positive}
-use Rattle.surf_basis.specs.Cycles.{as_loop, IsTheBasis, IsFirstCandidate, IsShortestCycle}
-use Rattle.surf_basis.specs.declared.cycle.Cycle.{Cycle}
-use Rattle.surf_answers.specs.Info.{Informs}
-use Rattle.surf_texts.specs.Outcome.{Outcome, answers, status_of}
-use Rattle.surf_answers.specs.Summaries.{total_size, BasisTotals, CycleMeasures}
-use Rattle.surf_basis.proofs.First.{first_listed}
+use Rattle.surf_answers.proofs.Common.{◌≡◌, ℕ, List, length, Some, inl, inr, sym, ap, Mesh, IsSurface, edge_count, Trees, AreChosen, Loop, candidates, LeastSimpleBasis, choice_exists, AreLengths, lengths_positive, as_loop, IsTheBasis, IsFirstCandidate, IsShortestCycle, Cycle, Informs, Outcome, answers, status_of, total_size, BasisTotals, CycleMeasures, first_listed}
 
 -- `info` answers with status 0
 informs_with : (mesh : Mesh) (o : Outcome) → Informs mesh o → status_of o ≡ 0

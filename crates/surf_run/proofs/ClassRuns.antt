@@ -1,22 +1,9 @@
 -- What `class` writes is confirmed.
-use Rattle.surf_surfaces.proofs.Common.{◌≡◌, ◌≤◌, ℕ, List, [], ◌∷◌, length, Some, None, Ok, refl, sym, ap, ◌∙◌, subst, arith, inl, codes, Mesh, face_count, edge_count, loop_count}
-use Rattle.surf_base.specs.Outside.{Files, bytes_of}
-use Rattle.surf_base.specs.declared.limits.LimitKind.TheVariants.{Loops}
+use Rattle.surf_answers.proofs.Common.{◌≡◌, ◌≤◌, ℕ, List, [], ◌∷◌, length, Some, None, Ok, refl, sym, ap, ◌∙◌, subst, arith, inl, codes, Mesh, face_count, edge_count, loop_count, Loops, evidence_text, Evidence, GivesClass, Outcome, answers, refused_by}
+use Rattle.surf_run.proofs.Common.{Files, bytes_of, evidence_in, OffParts, off_of, evidence_cause, right_line, off_cause, Answer, Reads, IsSurfaceText, HasWalk, goes, First}
 use Rattle.surf_class.proofs.Rereading.{evidence_again}
-use Rattle.surf_class.specs.Evidences.{evidence_in}
-use Rattle.surf_class.specs.Texts.{evidence_text}
-use Rattle.surf_classes.specs.Evidence.{Evidence}
-use Rattle.surf_off.specs.Off.{OffParts, off_of}
-use Rattle.surf_answers.specs.Classes.{GivesClass}
-use Rattle.surf_texts.specs.EvidenceLines.{evidence_cause, right_line}
-use Rattle.surf_texts.specs.MeshLines.{off_cause}
-use Rattle.surf_run.specs.Leads.{Answer, Leads}
-use Rattle.surf_texts.specs.Outcome.{Outcome, answers}
-use Rattle.surf_run.specs.Reading.{Reads, IsSurfaceText, HasWalk}
-use Rattle.surf_texts.specs.Cause.{refused_by}
-use Rattle.surf_run.specs.Steps.{goes}
+use Rattle.surf_run.specs.Leads.{Leads}
 use Rattle.surf_run.specs.TwoRuns.{ClassesAreConfirmed}
-use Rattle.surf_texts.specs.declared.walks.WalkFile.TheVariants.{First}
 use Rattle.surf_words.specs.Words.{request_of}
 use Rattle.surf_run.proofs.ClassSizes.{evidence_fits, evidence_short}
 use Rattle.surf_run.proofs.CycleLaws.{few_loops}

@@ -1,13 +1,7 @@
 -- Steps that functions take, one after another.
-use Rattle.surf_surfaces.proofs.Common.{◌≡◌, ◌≤◌, ◌∙◌, ℕ, [], Option, Some, None, Result, Ok, Err, inl, inr, refl, sym, ap, subst, arith, err_from_is_err_and, IfSome, IsErrAnd}
+use Rattle.surf_answers.proofs.Common.{◌≡◌, ◌≤◌, ◌∙◌, ℕ, [], Option, Some, None, Result, Ok, Err, inl, inr, refl, sym, ap, subst, arith, err_from_is_err_and, IfSome, IsErrAnd, Cause, due, unread, starved, Outcome, answers, misses, cause_of, Refused, IsTold, Why, Concludes, WhyOver, ConcludesOver, TakesOver, verdict_status, Answered}
 use Rattle.surf_base.specs.Outside.{Files}
-use Rattle.surf_texts.specs.Cause.{Cause, due, unread, starved}
-use Rattle.surf_texts.specs.Outcome.{Outcome, answers, misses}
-use Rattle.surf_texts.specs.Refusals.{cause_of}
-use Rattle.surf_texts.specs.declared.refusal.Refused.{Refused}
 use Rattle.surf_texts.specs.declared.refusal.Refused.TheVariants.{Read}
-use Rattle.surf_answers.specs.Tells.{IsTold, Why, Concludes, WhyOver, ConcludesOver, TakesOver, verdict_status}
-use Rattle.surf_answers.specs.declared.answered.Answered.{Answered}
 use Rattle.surf_run.specs.Steps.{Ends, stops, goes}
 
 -- ---- functions that read no file

@@ -1,20 +1,6 @@
 -- The steps of a request to cut a surface open, up to the text that is written.
-use Rattle.surf_surfaces.proofs.Common.{◌≡◌, ◌≤◌, ℕ, List, Option, Some, None, Result, Ok, Err, refl, subst, Mesh, loop_count, IfSome, IsErrAnd}
-use Rattle.surf_base.specs.Outside.{Files}
-use Rattle.surf_base.specs.declared.limits.LimitKind.TheVariants.{Loops}
-use Rattle.surf_off.specs.Off.{OffParts}
-use Rattle.surf_cutter.specs.Kinds.{Kind}
-use Rattle.surf_cutter.specs.Opened.{OpenMesh}
-use Rattle.surf_texts.specs.Outcome.{Outcome}
-use Rattle.surf_texts.specs.Refusals.{cause_of}
-use Rattle.surf_texts.specs.declared.refusal.Refused.{Refused}
-use Rattle.surf_words.specs.Words.{Extent}
-use Rattle.surf_answers.specs.Cuts.{CutsAt, GivesOpened}
-use Rattle.surf_answers.specs.Tells.{Takes, TakesOver, Why, WhyOver, ConcludesOver}
-use Rattle.surf_run.specs.Cutting.{CutsOpen}
-use Rattle.surf_run.specs.Reading.{HasLengths, HasBase, HasKind}
-use Rattle.surf_run.specs.Steps.{Ends, stops, goes, AtMost}
-use Rattle.surf_run.proofs.Composing.{SoFar, begun, over, past, ended, follows_so, some_so, at_once, refused}
+use Rattle.surf_answers.proofs.Common.{◌≡◌, ◌≤◌, ℕ, List, Option, Result, Ok, Err, refl, Mesh, loop_count, IfSome, Loops, Kind, OpenMesh, Outcome, Refused, CutsAt, GivesOpened, Takes, TakesOver}
+use Rattle.surf_run.proofs.Common.{Files, OffParts, Extent, CutsOpen, HasLengths, HasBase, HasKind, Ends, stops, goes, AtMost, SoFar, begun, over, past, ended, follows_so, some_so, at_once, refused}
 
 -- what comes of a surface, as steps
 abbrev pub cut_steps : Extent → OffParts → Mesh → List ℕ → ℕ → Files → Outcome → Type 0

@@ -1,10 +1,8 @@
 -- Fronts that rows share, as one step.
-use Rattle.surf_surfaces.proofs.Common.{◌≡◌, ℕ, List, Option, Ok, Mesh, loop_count, IfSome}
+use Rattle.surf_answers.proofs.Common.{◌≡◌, ℕ, List, Option, Ok, Mesh, loop_count, IfSome, Loops, Outcome}
 use Rattle.surf_base.specs.Outside.{Files}
 use Rattle.surf_base.specs.declared.limits.LimitKind.{LimitKind}
-use Rattle.surf_base.specs.declared.limits.LimitKind.TheVariants.{Loops}
 use Rattle.surf_off.specs.Off.{OffParts}
-use Rattle.surf_texts.specs.Outcome.{Outcome}
 use Rattle.surf_run.specs.Fronts.{IsMeasuredSurface, IsSmallSurface, MeasuresSurface, MeasuresSmall, OnMeasured, OnSmall}
 use Rattle.surf_run.specs.Reading.{HasLengths, HoldsSurface}
 use Rattle.surf_run.specs.Steps.{Ends, stops, goes, AtMost}

@@ -1,6 +1,7 @@
 mod CertSizes
 mod ClassRuns
 mod ClassSizes
+mod Common
 mod Composing
 mod Cutting
 mod CycleLaws

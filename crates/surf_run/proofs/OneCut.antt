@@ -1,13 +1,9 @@
 -- A surface is cut open at a base in one way.
-use Rattle.surf_surfaces.proofs.Common.{◌≡◌, ℕ, true, false, List, Ok, Err, sym, ◌∙◌, ap, arith, Mesh, IsSurface, ArePositive, count_below-same, edge_count}
+use Rattle.surf_answers.proofs.Common.{◌≡◌, ℕ, true, false, List, Ok, Err, sym, ◌∙◌, ap, arith, Mesh, IsSurface, ArePositive, count_below-same, edge_count, full_cut, Kind, full, trimmed, through, is_point, Outcome, CutsAt, IsCutAt, IsNearAt}
 use Rattle.surf_opening.proofs.cuts.ChosenTrees.{openings_at_are_one}
-use Rattle.surf_opening.specs.ChosenCut.{full_cut}
 use Rattle.surf_seams.specs.Through.{IsCutThrough}
 use Rattle.surf_seams.proofs.AtBase.{openings_through_at_are_one, same_full, through_same}
 use Rattle.surf_seams.proofs.Taking.{cuts_through_are_one}
-use Rattle.surf_cutter.specs.Kinds.{Kind, full, trimmed, through, is_point}
-use Rattle.surf_texts.specs.Outcome.{Outcome}
-use Rattle.surf_answers.specs.Cuts.{CutsAt, IsCutAt, IsNearAt}
 use Rattle.surf_run.proofs.StepLaws.{IsOne}
 
 module _ (mesh : Mesh) (lengths : List ℕ) (base : ℕ) (surface : IsSurface mesh) (long : ArePositive mesh lengths) where

@@ -1,14 +1,13 @@
 -- The first fault of a mesh that is no surface, or no disc, and that of evidence is one.
-use Rattle.surf_surfaces.proofs.Common.{◌≡◌, ◌≢◌, ℕ, zero, suc, ◌+◌, ◌<◌, ◌≤◌, true, false, List, [], ◌∷◌, length, get_or, take, refl, sym, ap, ◌∙◌, subst, arith, inl, inr, ◌==◌, cases_Bool, cases_eq, true≢false, eqb-true, boundary, Joined, Mesh, pair_lt, pair_eq, among, edges, face_count, edge_count, ends, faces_with, HasCorner, Share, ShareAt, HasOneFan, IsConnected, Chain, IsBorderEdge, ShareOnBorder}
+use Rattle.surf_answers.proofs.Common.{◌≡◌, ◌≢◌, ℕ, zero, suc, ◌+◌, ◌<◌, ◌≤◌, true, false, List, [], ◌∷◌, length, get_or, take, refl, sym, ap, ◌∙◌, subst, arith, inl, inr, ◌==◌, cases_Bool, cases_eq, true≢false, eqb-true, boundary, Joined, Mesh, pair_lt, pair_eq, among, edges, face_count, edge_count, ends, faces_with, HasCorner, Share, ShareAt, HasOneFan, IsConnected, Chain, IsBorderEdge, ShareOnBorder, is_listed, has_odd_sides, Evidence, null_faces, odd_pairs, among-contains, list_any_at, pair_eq-true, pair_lt-total}
+use Rattle.surf_run.proofs.Common.{SurfaceFault}
 use Rattle.surf_treecheck.specs.First.{HoldsBelow, FailsFirst}
 use Rattle.surf_treecheck.proofs.FirstFault.{first_same}
 use Rattle.surf_check.specs.Fault.{IsSurfaceFault}
-use Rattle.surf_check.specs.declared.checking.SurfaceFault.{SurfaceFault}
 use Rattle.surf_check.specs.declared.checking.SurfaceFault.TheVariants as surface
 use Rattle.surf_class.specs.Faults.{IsClassFault}
 use Rattle.surf_class.specs.declared.fault.ClassFault.{ClassFault}
 use Rattle.surf_class.specs.declared.fault.ClassFault.TheVariants as class
-use Rattle.surf_classes.specs.Evidence.{is_listed, has_odd_sides, Evidence, null_faces, odd_pairs}
 use Rattle.surf_classes.specs.Faults.{IsNoFace, IsNoBoundary, IsNoPair, IsOddFace}
 use Rattle.surf_disc.specs.Across.{NoneCrowded}
 use Rattle.surf_disc.specs.Border.{IsLeastOnBorder, IsLeastOutside, HasOneBorder}
@@ -21,8 +20,6 @@ use Rattle.surf_soup.specs.Apart.{IsLeastApart}
 use Rattle.surf_soup.specs.Pairs.{degree, HasTwoFaces, IsLeastBorder, IsLeastCrowd}
 use Rattle.surf_soup.specs.Ring.{IsPinch, IsLeastPinch}
 use Rattle.surf_soup.specs.Vertices.{AllMet, IsLeastIsolated}
-use Rattle.surf_surfaces.proofs.meshes.EdgeLaws.{among-contains, list_any_at}
-use Rattle.surf_surfaces.proofs.meshes.PairLaws.{pair_eq-true, pair_lt-total}
 
 -- ---- the first condition that fails
 

@@ -1,18 +1,9 @@
 -- Each line that says why there is no answer is one line.
-use Rattle.surf_surfaces.proofs.Common.{◌≡◌, ◌+◌, ◌/◌, ◌%◌, ℕ, zero, suc, Bool, true, false, List, [], ◌∷◌, ◌++◌, refl, sym, ap, ◌∙◌, append_assoc, arith, inl, inr, nat_lt, if◌then◌else◌, codes, decimal, ◌==◌, list_any, cases_Bool, ne_eqb}
+use Rattle.surf_answers.proofs.Common.{◌≡◌, ◌+◌, ◌/◌, ◌%◌, ℕ, zero, suc, Bool, true, false, List, [], ◌∷◌, ◌++◌, refl, sym, ap, ◌∙◌, append_assoc, arith, inl, inr, nat_lt, if◌then◌else◌, codes, decimal, ◌==◌, list_any, cases_Bool, ne_eqb, Cause, due, unread, starved, misused, line_of, limit_name, answers, refuses, misses}
+use Rattle.surf_run.proofs.Common.{LimitKind, numbers_text, numbered, is_line_end, IsOneLine, file_words, WalkFile, First, Second}
 use Rattle.std.specs.Fmt.{digits, digit_glyph, digits_onto}
-use Rattle.surf_base.specs.declared.limits.LimitKind.{LimitKind}
 use Rattle.surf_base.specs.declared.limits.LimitKind.TheVariants as limits
 use Rattle.surf_off.proofs.NumberLines.{none_append}
-use Rattle.surf_text.specs.Numbers.{numbers_text, numbered}
-use Rattle.surf_text.specs.Text.{is_line_end}
-use Rattle.surf_texts.specs.Cause.{Cause, due, unread, starved, misused, line_of}
-use Rattle.surf_texts.specs.Limits.{limit_name}
-use Rattle.surf_texts.specs.Outcome.{answers, refuses, misses}
-use Rattle.surf_run.specs.Run.{IsOneLine}
-use Rattle.surf_texts.specs.WalkLines.{file_words}
-use Rattle.surf_texts.specs.declared.walks.WalkFile.{WalkFile}
-use Rattle.surf_texts.specs.declared.walks.WalkFile.TheVariants.{First, Second}
 
 -- what is due has one line, if it has any
 abbrev pub IsSaid : Cause → Type 0

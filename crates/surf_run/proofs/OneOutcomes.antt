@@ -1,54 +1,28 @@
 -- What is answered of a surface, a mesh or a certificate is one outcome.
-use Rattle.surf_surfaces.proofs.Common.{◌≡◌, inl, inr, ℕ, ◌++◌, List, [], Option, refl, sym, ◌∙◌, ap, arith, length, nat_lt, if◌then◌else◌, codes, IsSurface, ArePositive, IsClosed, parity, walk_length, Loop, loops_at, Mesh, characteristic}
-use Rattle.surf_texts.specs.Outcome.{Outcome, answers, refuses, misses}
-use Rattle.surf_run.specs.Reading.{IsEvidenceText}
-use Rattle.surf_answers.specs.Summaries.{total_size, LoopsTotal, BasisTotals, CycleMeasures, GivesSummary}
-use Rattle.surf_texts.specs.SummaryTexts.{measures_text, mesh_counts, kind_text}
+use Rattle.surf_answers.proofs.Common.{◌≡◌, inl, inr, ℕ, ◌++◌, List, [], Option, refl, sym, ◌∙◌, ap, arith, length, nat_lt, if◌then◌else◌, codes, IsSurface, ArePositive, IsClosed, parity, walk_length, Loop, loops_at, Mesh, characteristic, Outcome, answers, refuses, misses, GivesSummary, refused_by, Informs, Says, beyond, loop_text, basis_text, chosen_cert, basis_cert_of, measured_line, measured_text, texts_same, evidence_text, Evidence, AreClosed, evidence_words, GivesClass, GivesDistances, GivesLoops, GivesBasis, GivesCycle, GivesLoopCert, GivesBasisCert}
+use Rattle.surf_run.proofs.Common.{IsEvidenceText, OffParts, JudgesCert, bases_are_one, chosen_basis_certs_are_one, OnSewnMesh, evidence_in, evidence_cause}
+use Rattle.surf_texts.specs.SummaryTexts.{mesh_counts, kind_text}
 use Rattle.surf_disc.proofs.FaultLaws.{fault_only as disc_fault_only}
-use Rattle.surf_off.specs.Off.{OffParts}
-use Rattle.surf_texts.specs.Cause.{refused_by}
 use Rattle.surf_answers.specs.Discs.{JudgesDisc, SaysNoDisc}
-use Rattle.surf_texts.specs.DiscLines.{no_line}
-use Rattle.surf_answers.specs.Info.{Informs}
-use Rattle.surf_answers.specs.Says.{Says}
-use Rattle.surf_texts.specs.Limits.{beyond}
 use Rattle.surf_records.specs.declared.cert.Cert.{Cert}
 use Rattle.surf_records.specs.declared.cert.Cert.TheVariants.{Loops}
 use Rattle.surf_records.specs.declared.cert.Cert.TheVariants as certs
 use Rattle.surf_certcheck.proofs.LoopFaults.{no_loop_fault}
 use Rattle.surf_certcheck.proofs.OneBasisFault.{one_basis_fault, no_basis_fault}
 use Rattle.surf_certcheck.proofs.OneFault.{one_loop_fault}
-use Rattle.surf_texts.specs.VerdictLines.{fault_line}
-use Rattle.surf_answers.specs.Verdicts.{JudgesCert}
 use Rattle.surf_run.proofs.CycleLaws.{firsts_are_one}
 use Rattle.surf_run.proofs.OneFaults.{disc_faults_are_one, class_faults_are_one}
 use Rattle.surf_base.specs.declared.limits.LimitKind.TheVariants as limits
-use Rattle.surf_cert.specs.Written.{loop_text, basis_text}
-use Rattle.surf_validity.specs.Chosen.{chosen_cert, basis_cert_of}
 use Rattle.surf_validity.proofs.OneCert.{chosen_certs_are_one}
-use Rattle.surf_validity.proofs.OneBasis.{bases_are_one, chosen_basis_certs_are_one}
 use Rattle.surf_surfaces.proofs.walks.ShortestTreeLaws.{shortest_trees_are_one}
 use Rattle.surf_surfaces.proofs.bases.LoopsOne.{loops_are_one}
-use Rattle.surf_texts.specs.MeasuredTexts.{measured_line, measured_text}
 use Rattle.surf_texts.specs.DistanceTexts.{distances_text}
-use Rattle.surf_texts.proofs.TreeTextLaws.{texts_same}
 use Rattle.surf_sew.specs.Texts.{sewn_text}
-use Rattle.surf_run.specs.Sewing.{OnSewnMesh}
-use Rattle.surf_class.specs.Evidences.{evidence_in}
-use Rattle.surf_class.specs.Texts.{evidence_text}
-use Rattle.surf_classes.specs.Evidence.{Evidence, AreClosed}
 use Rattle.surf_classes.proofs.ChosenEvidence.{class_evidence_is_one}
-use Rattle.surf_answers.specs.Classes.{evidence_words, GivesClass}
-use Rattle.surf_texts.specs.EvidenceLines.{wrong_line, evidence_cause}
 use Rattle.surf_answers.specs.Confirming.{JudgesEvidence}
 use Rattle.surf_classes.proofs.ChosenWalks.{chosen_walk_is_one}
 use Rattle.surf_answers.specs.ShortestWalk.{GivesShortestWalk}
 use Rattle.surf_run.proofs.StepLaws.{HasOneOutcome, IsOne, one_told, one_end, one_result, one_surface_of}
-use Rattle.surf_answers.specs.Distances.{GivesDistances}
-use Rattle.surf_answers.specs.LeastLoops.{GivesLoops}
-use Rattle.surf_answers.specs.LeastBasis.{GivesBasis}
-use Rattle.surf_answers.specs.ShortestCycle.{GivesCycle}
-use Rattle.surf_answers.specs.Certificates.{GivesLoopCert, GivesBasisCert}
 
 -- ---- what is answered
 

@@ -1,9 +1,9 @@
 -- Each refusal: its status is from 2 to 8 or from 12 on, and it has one line.
-use Rattle.surf_surfaces.proofs.Common.{◌≡◌, ℕ, true, false, List, [], ◌∷◌, refl, arith, nat_lt, ◌&&◌, ◌||◌, codes, slice_index, list_any}
+use Rattle.surf_answers.proofs.Common.{◌≡◌, ℕ, true, false, List, [], ◌∷◌, refl, arith, nat_lt, ◌&&◌, ◌||◌, codes, slice_index, list_any, Cause, told, near_cause, point_cause, cause_of, geom_cause, Refused}
+use Rattle.surf_run.proofs.Common.{SurfaceFault, LengthFault, is_line_end, cert_cause, evidence_cause, off_cause, IsDecided, copy_cause, sew_cause, surface_cause, walk_cause, walk_told, length_cause, MeshText, Surface, Lengths, Base, Certificate, Coordinates, Copies, Sewing, Walk, Points, Near, Limit, Read, WalkFile}
 use Prim.Native.String.{String as Literal}
 use Rattle.surf_cert.specs.declared.fault.CertText.{CertText}
 use Rattle.surf_cert.specs.declared.fault.CertText.TheVariants as certs
-use Rattle.surf_check.specs.declared.checking.SurfaceFault.{SurfaceFault}
 use Rattle.surf_check.specs.declared.checking.SurfaceFault.TheVariants as check
 use Rattle.surf_class.specs.declared.fault.EvidenceFault.{EvidenceFault}
 use Rattle.surf_class.specs.declared.fault.EvidenceFault.TheVariants as evidence
@@ -13,7 +13,6 @@ use Rattle.surf_class.specs.declared.fault.WalkFault.{WalkFault}
 use Rattle.surf_class.specs.declared.fault.WalkFault.TheVariants as walking
 use Rattle.surf_geom.specs.declared.fault.GeomFault.{GeomFault}
 use Rattle.surf_geom.specs.declared.fault.GeomFault.TheVariants as geom
-use Rattle.surf_lengths.specs.declared.fault.LengthFault.{LengthFault}
 use Rattle.surf_lengths.specs.declared.fault.LengthFault.TheVariants as lengths
 use Rattle.surf_off.specs.declared.fault.OffFault.{OffFault}
 use Rattle.surf_off.specs.declared.fault.OffFault.TheVariants as off
@@ -21,21 +20,7 @@ use Rattle.surf_sew.specs.declared.copies.CopyFault.{CopyFault}
 use Rattle.surf_sew.specs.declared.copies.CopyFault.TheVariants as copies
 use Rattle.surf_sew.specs.declared.fault.SewFault.{SewFault}
 use Rattle.surf_sew.specs.declared.fault.SewFault.TheVariants as sewing
-use Rattle.surf_text.specs.Text.{is_line_end}
-use Rattle.surf_texts.specs.Cause.{Cause, told}
-use Rattle.surf_texts.specs.CertLines.{cert_cause}
-use Rattle.surf_texts.specs.EvidenceLines.{evidence_cause}
-use Rattle.surf_texts.specs.MeshLines.{off_cause}
-use Rattle.surf_texts.specs.PointLines.{near_cause, point_cause}
-use Rattle.surf_texts.specs.Refusals.{cause_of, geom_cause}
-use Rattle.surf_run.specs.Run.{IsDecided}
-use Rattle.surf_texts.specs.SewingLines.{copy_cause, sew_cause}
-use Rattle.surf_texts.specs.SurfaceLines.{surface_cause}
-use Rattle.surf_texts.specs.WalkLines.{walk_cause, walk_told}
-use Rattle.surf_texts.specs.LengthLines.{length_cause}
-use Rattle.surf_texts.specs.declared.refusal.Refused.{Refused}
-use Rattle.surf_texts.specs.declared.refusal.Refused.TheVariants.{MeshText, Surface, Lengths, Base, Certificate, Coordinates, Copies, Sewing, Walk, Evidence, Points, Near, Limit, Read, Memory}
-use Rattle.surf_texts.specs.declared.walks.WalkFile.{WalkFile}
+use Rattle.surf_texts.specs.declared.refusal.Refused.TheVariants.{Evidence, Memory}
 use Rattle.surf_run.proofs.OneLine.{IsSaid, numbered_is_one, counted_is_one, limit_is_one, walk_is_one}
 use Rattle.surf_run.proofs.Running.{IsDue}
 

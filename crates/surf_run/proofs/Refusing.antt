@@ -1,28 +1,8 @@
 -- No test of words and files answers: where one ends, it refuses.
-use Rattle.surf_surfaces.proofs.Common.{◌≡◌, ◌<◌, ◌≤◌, inl, inr, ℕ, Bool, true, false, List, [], length, Option, Some, None, Result, Ok, Err, sym, ap, subst, arith, nat_lt, if◌then◌else◌, codes, replicate, bytes_eq, Mesh, edge_count}
-use Rattle.surf_base.specs.Outside.{Files, bytes_of}
-use Rattle.surf_base.specs.declared.limits.LimitKind.{LimitKind}
+use Rattle.surf_answers.proofs.Common.{◌≡◌, ◌<◌, ◌≤◌, inl, inr, ℕ, Bool, true, false, List, [], length, Option, Some, None, Result, Ok, Err, sym, ap, subst, arith, nat_lt, if◌then◌else◌, codes, replicate, bytes_eq, Mesh, edge_count, Cause, due, unread, starved, outcome_of, refused_by, beyond, Outcome, answers, refuses, misses, status_of, Shows, CutsAt, Says, Kind, through, point_cause}
+use Rattle.surf_run.proofs.Common.{Files, bytes_of, LimitKind, lengths_in, off_of, off_cause, Reads, within_text, EndsInFault, IsSurfaceText, lengths_for, HasLengths, HasBase, walk_named, HasWalk, HasKind, kind_named, Extent, fully, Ends, stops, goes, AtMost, and_then, surface_cause, length_cause, points_in, walk_in, walk_cause, WalkFile}
 use Rattle.surf_base.specs.declared.limits.LimitKind.TheVariants as limits
-use Rattle.surf_lengths.specs.Files.{lengths_in}
-use Rattle.surf_off.specs.Off.{off_of}
-use Rattle.surf_texts.specs.Cause.{Cause, due, unread, starved, outcome_of, refused_by}
-use Rattle.surf_texts.specs.Limits.{beyond}
-use Rattle.surf_texts.specs.MeshLines.{off_cause}
-use Rattle.surf_texts.specs.Outcome.{Outcome, answers, refuses, misses, status_of, Shows}
-use Rattle.surf_run.specs.Reading.{Reads, within_text, EndsInFault, IsSurfaceText, lengths_for, HasLengths, HasBase, walk_named, HasWalk, HasKind, kind_named}
-use Rattle.surf_answers.specs.Cuts.{CutsAt}
-use Rattle.surf_answers.specs.Says.{Says}
-use Rattle.surf_cutter.specs.Kinds.{Kind, through}
-use Rattle.surf_words.specs.Words.{Extent, fully}
 use Rattle.surf_words.specs.Words.{trimmed as trimmed_words, through as through_words}
-use Rattle.surf_run.specs.Steps.{Ends, stops, goes, AtMost, and_then}
-use Rattle.surf_texts.specs.SurfaceLines.{surface_cause}
-use Rattle.surf_texts.specs.LengthLines.{length_cause}
-use Rattle.surf_class.specs.Points.{points_in}
-use Rattle.surf_class.specs.Walks.{walk_in}
-use Rattle.surf_texts.specs.PointLines.{point_cause}
-use Rattle.surf_texts.specs.WalkLines.{walk_cause}
-use Rattle.surf_texts.specs.declared.walks.WalkFile.{WalkFile}
 use Rattle.surf_run.proofs.Refusals.{off_proper, surface_proper, length_proper, walk_proper, point_proper}
 use Rattle.surf_run.proofs.Running.{IsDue}
 

@@ -1,27 +1,15 @@
 -- What comes of each row of the command table: one outcome, which depends on the files alone that the row names.
-use Rattle.surf_surfaces.proofs.Common.{◌++◌, ◌∷◌, ℕ, List, [], Option, Some, None, refl, edge_count, AllByRecursion}
-use Rattle.surf_base.specs.Outside.{Files}
-use Rattle.surf_texts.specs.Refusals.{geom_cause}
-use Rattle.surf_off.specs.Written.{soup_text}
-use Rattle.surf_words.specs.Shapes.{mesh_of}
-use Rattle.surf_gen.specs.Made.{made_values}
-use Rattle.surf_texts.specs.Cause.{refused_by}
-use Rattle.surf_texts.specs.CertLines.{cert_cause}
-use Rattle.surf_texts.specs.SewingLines.{copy_cause, sew_cause}
+use Rattle.surf_answers.proofs.Common.{◌++◌, ◌∷◌, ℕ, List, [], Option, Some, None, refl, edge_count, AllByRecursion, geom_cause, soup_text, refused_by, cut_text, lengths_positive}
+use Rattle.surf_run.proofs.Common.{Files, mesh_of, made_values, cert_cause, copy_cause, sew_cause, First, Second, OnRequest, named, point_file, length_file, Request, help, version, info, dist, loops, basis, cycle, cut, sew, disc, class, same, confirm, shortest, certify_loops, certify_basis, check, lengths, gen_shape, try_shape}
 use Rattle.surf_geom.specs.Measures.{measures_in}
 use Rattle.surf_geom.specs.Texts.{lengths_text}
-use Rattle.surf_answers.specs.Cuts.{cut_text}
 use Rattle.surf_cert.specs.Grammar.{parsed_cert}
 use Rattle.surf_run.proofs.ShapeWords.{IsWellShaped, shape_is_surface, made_are_positive}
 use Rattle.surf_base.specs.declared.limits.LimitKind.TheVariants as limits
-use Rattle.surf_lengths.proofs.Positive.{lengths_positive}
 use Rattle.surf_sew.specs.Copies.{copies_in}
 use Rattle.surf_sew.specs.Sewing.{sewn_of}
-use Rattle.surf_texts.specs.declared.walks.WalkFile.TheVariants.{First, Second}
-use Rattle.surf_run.specs.Commands.{OnRequest, named, point_file, length_file}
 use Rattle.surf_run.proofs.OneCut.{one_cut}
 use Rattle.surf_run.proofs.StepLaws.{IsSettled, Same, followed, settled, steady, within, reading, walked, told_kind, of_surface, one_base, one_mesh_text, one_outcome, one_result, has_lengths}
-use Rattle.surf_words.specs.Words.{Request, help, version, info, dist, loops, basis, cycle, cut, sew, disc, class, same, confirm, shortest, certify_loops, certify_basis, check, lengths, gen_shape, try_shape}
 use Rattle.surf_run.proofs.OneOutcomes.{one_info, one_judgement, says_same, one_distances, one_system, one_loop_cert, one_basis, one_cycle, one_basis_cert, one_verdict, one_sewing, one_class, one_evidence_text, one_judged_evidence, one_shortest, one_summary}
 
 -- ---- the rows

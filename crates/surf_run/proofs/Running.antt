@@ -1,14 +1,7 @@
 -- What a run leaves, by what its command answered.
-use Rattle.surf_surfaces.proofs.Common.{◌≡◌, ◌⊎◌, ◌<◌, ◌≤◌, inl, inr, ℕ, List, Option, Some, None, refl, sym, ◌∙◌, subst, arith, IfSome, codes}
-use Rattle.surf_base.specs.Outside.{Files, HasRisen, GrowsBy}
-use Rattle.surf_base.specs.Transfer.{GrowsByShorter}
-use Rattle.surf_texts.specs.Outcome.{Outcome, answers, refuses, misses}
-use Rattle.surf_texts.specs.Cause.{Cause, due, unread, starved, misused, line_of}
-use Rattle.surf_run.specs.Commands.{OnRequest}
+use Rattle.surf_answers.proofs.Common.{◌≡◌, ◌⊎◌, ◌<◌, ◌≤◌, inl, inr, ℕ, List, Option, Some, None, refl, sym, ◌∙◌, subst, arith, IfSome, codes, Outcome, answers, refuses, misses, Cause, due, unread, starved, misused, line_of, IsTold, Why, WhyOver, verdict_status}
+use Rattle.surf_run.proofs.Common.{Files, HasRisen, GrowsBy, GrowsByShorter, OnRequest, Request, request_of, AreTheFiles, NamesFile, PutsLine, IsDecided, IsLineOf, Refuses, WritesAnswer, WritesFront}
 use Rattle.surf_run.specs.Leads.{Leads}
-use Rattle.surf_answers.specs.Tells.{IsTold, Why, WhyOver, verdict_status}
-use Rattle.surf_words.specs.Words.{Request, request_of}
-use Rattle.surf_run.specs.Run.{AreTheFiles, NamesFile, PutsLine, IsDecided, IsLineOf, Refuses, WritesAnswer, WritesFront}
 use Rattle.surf_run.proofs.OneLine.{IsSaid, misused_is_one, read_fault_is_one, write_fault_is_one, memory_is_one}
 use Rattle.surf_answers.specs.declared.answered.Verdict.{Verdict}
 use Rattle.surf_answers.specs.declared.answered.Verdict.TheVariants.{Yes, No}

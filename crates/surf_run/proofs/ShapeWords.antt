@@ -1,13 +1,10 @@
 -- The shapes that words name have surfaces as meshes, and the lengths that a scatter makes are positive.
-use Rattle.surf_surfaces.proofs.Common.{rules, ℕ, Bool, true, false, List, [], ◌∷◌, Option, Some, None, refl, sym, subst, arith, inl, inr, AllByRecursion, cases_Bool, and_parts, leb-true, get_or-map-range_with_len, Mesh, edge_count, IsSurface, ArePositive}
-use Rattle.std.specs.Prelude.{nat_le, ◌&&◌, if◌then◌else◌, IfSome, codes, option_map}
-use Rattle.surf_gen.specs.Made.{made_length, made_values}
+use Rattle.surf_answers.proofs.Common.{rules, ℕ, Bool, true, false, List, [], ◌∷◌, Option, Some, None, refl, sym, subst, arith, inl, inr, AllByRecursion, cases_Bool, and_parts, leb-true, get_or-map-range_with_len, Mesh, edge_count, IsSurface, ArePositive, nat_le, ◌&&◌, if◌then◌else◌, IfSome, codes, option_map}
+use Rattle.surf_run.proofs.Common.{made_length, made_values, Shape, IsShape, mesh_of, shape_from, shape_named, Request, help, version, try_shape, word_number, tried, torus_of, chain_of, Row, row, command_table, fits, given_for, request_in, words_of}
 use Rattle.surf_tori.specs.Chain.{chain}
 use Rattle.surf_tori.proofs.ChainLaws.{chains_are_surfaces}
 use Rattle.surf_tori.proofs.TorusLaws.{tori_are_surfaces}
-use Rattle.surf_words.specs.Shapes.{Shape, IsShape, mesh_of, shape_from, shape_named}
-use Rattle.surf_words.specs.Words.{Request, help, version, try_shape, word_number, tried, torus_of, chain_of, Row, row, command_table, fits, given_for, request_in, request_of}
-use Rattle.surf_text.specs.Text.{words_of}
+use Rattle.surf_words.specs.Words.{request_of}
 use Prim.Native.String.{String as Literal}
 
 -- ---- the shapes of words

@@ -1,27 +1,10 @@
 -- Steps, here and there: what one gives here it gives there, and there it gives one thing.
-use Rattle.surf_surfaces.proofs.Common.{◌≡◌, ◌≢◌, inl, inr, ℕ, Bool, true, false, List, [], Result, Ok, Err, refl, sym, ◌∙◌, ap, subst, arith, ◌∷◌, if◌then◌else◌, codes, replicate, Mesh, edge_count, IsSurface, AllByRecursion, bytes_eq}
-use Rattle.surf_base.specs.Outside.{Files, bytes_of}
-use Rattle.surf_texts.specs.LengthLines.{length_cause}
-use Rattle.surf_texts.specs.Outcome.{Outcome}
-use Rattle.surf_run.specs.Steps.{Ends, stops, goes, AtMost, and_then}
-use Rattle.surf_run.specs.Reading.{Reads, within_text, IsMeshText, EndsInFault, IsSurfaceOf, IsSurfaceText, lengths_for, HasLengths, HasBase, walk_named, HasWalk, HasKind, kind_named}
+use Rattle.surf_answers.proofs.Common.{◌≡◌, ◌≢◌, inl, inr, ℕ, Bool, true, false, List, [], Result, Ok, Err, refl, sym, ◌∙◌, ap, subst, arith, ◌∷◌, if◌then◌else◌, codes, replicate, Mesh, edge_count, IsSurface, AllByRecursion, bytes_eq, Outcome, refused_by, through, point_cause}
+use Rattle.surf_run.proofs.Common.{Files, bytes_of, length_cause, Ends, stops, goes, AtMost, and_then, Reads, within_text, IsMeshText, EndsInFault, IsSurfaceOf, IsSurfaceText, lengths_for, HasLengths, HasBase, walk_named, HasWalk, HasKind, kind_named, OffParts, off_of, off_cause, LimitKind, WalkFile, points_in, Extent, fully, length_file, point_file, lengths_in, walk_in, walk_cause}
 use Rattle.surf_check.proofs.FaultLaws.{fault_only}
-use Rattle.surf_off.specs.Off.{OffParts, off_of}
-use Rattle.surf_texts.specs.Cause.{refused_by}
-use Rattle.surf_texts.specs.MeshLines.{off_cause}
 use Rattle.surf_run.proofs.OneFaults.{surface_faults_are_one}
-use Rattle.surf_base.specs.declared.limits.LimitKind.{LimitKind}
 use Rattle.surf_texts.specs.Faults.{TellsFault}
-use Rattle.surf_texts.specs.declared.walks.WalkFile.{WalkFile}
-use Rattle.surf_class.specs.Points.{points_in}
-use Rattle.surf_cutter.specs.Kinds.{through}
-use Rattle.surf_texts.specs.PointLines.{point_cause}
-use Rattle.surf_words.specs.Words.{Extent, fully}
 use Rattle.surf_words.specs.Words.{trimmed as trimmed_words, through as through_words}
-use Rattle.surf_run.specs.Commands.{length_file, point_file}
-use Rattle.surf_lengths.specs.Files.{lengths_in}
-use Rattle.surf_class.specs.Walks.{walk_in}
-use Rattle.surf_texts.specs.WalkLines.{walk_cause}
 
 -- two results of a step go on with one value, or end in one outcome
 abbrev pub Agree : {A : Type 0} → Result A Outcome → Result A Outcome → Type 0

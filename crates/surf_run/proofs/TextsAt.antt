@@ -1,13 +1,7 @@
 -- The text of a file, of which the mesh alone goes on.
-use Rattle.surf_surfaces.proofs.Common.{◌≡◌, ℕ, List, Option, Result, Ok, Err, inl, inr, sym, subst, Mesh, IsSurface, IfOk, IfSome, IsErrAnd}
+use Rattle.surf_answers.proofs.Common.{◌≡◌, ℕ, List, Option, Result, Ok, Err, inl, inr, sym, subst, Mesh, IsSurface, IfOk, IfSome, IsErrAnd, Outcome, Cause, due, unread, starved, cause_of, Refused, Answered, Why, Takes, WhyOver, TakesOver, ConcludesOver}
 use Rattle.surf_base.specs.Outside.{Files}
 use Rattle.surf_off.specs.Off.{OffParts}
-use Rattle.surf_texts.specs.Outcome.{Outcome}
-use Rattle.surf_texts.specs.Cause.{Cause, due, unread, starved}
-use Rattle.surf_texts.specs.Refusals.{cause_of}
-use Rattle.surf_texts.specs.declared.refusal.Refused.{Refused}
-use Rattle.surf_answers.specs.declared.answered.Answered.{Answered}
-use Rattle.surf_answers.specs.Tells.{Why, Takes, WhyOver, TakesOver, ConcludesOver}
 use Rattle.surf_run.specs.Steps.{Ends, stops, goes}
 use Rattle.surf_run.specs.Reading.{Reads, IsMeshText, GivesMesh, IsSurfaceOf, IsSurfaceText, HoldsText, IsTextAt}
 use Rattle.surf_run.proofs.Composing.{handed, some_so, why_over_so}

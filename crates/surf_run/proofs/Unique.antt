@@ -1,13 +1,9 @@
 -- Words and files have one outcome, and where nothing failed it is the answer.
-use Rattle.surf_surfaces.proofs.Common.{◌≡◌, ◌⊎◌, ◌≤◌, inl, inr, ℕ, List, [], refl, sym, ◌∙◌, ap, subst, arith, ◌∷◌, cases_eq, cases_lt, AllByRecursion}
-use Rattle.surf_base.specs.Outside.{Files}
-use Rattle.surf_texts.specs.Outcome.{Outcome, answers, refuses, misses, Shows, status_of}
+use Rattle.surf_answers.proofs.Common.{◌≡◌, ◌⊎◌, ◌≤◌, inl, inr, ℕ, List, [], refl, sym, ◌∙◌, ap, subst, arith, ◌∷◌, cases_eq, cases_lt, AllByRecursion, Outcome, answers, refuses, misses, Shows, status_of}
+use Rattle.surf_run.proofs.Common.{Files, IsDecided, named, Answer, request_of}
 use Rattle.surf_run.specs.OneAnswer.{OutcomesAreOne, AnswersAreOne}
 use Rattle.surf_run.proofs.ShapeWords.{words_are_well_shaped}
-use Rattle.surf_run.specs.Run.{IsDecided}
-use Rattle.surf_run.specs.Commands.{named}
-use Rattle.surf_run.specs.Leads.{Leads, Answer}
-use Rattle.surf_words.specs.Words.{request_of}
+use Rattle.surf_run.specs.Leads.{Leads}
 use Rattle.surf_run.proofs.StepLaws.{HasOneOutcome, Same}
 use Rattle.surf_run.proofs.Rows.{rows_are_settled}
 

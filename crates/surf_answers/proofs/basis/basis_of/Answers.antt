@@ -1,11 +1,5 @@
-use Rattle.surf_surfaces.proofs.Common.{◌≡◌, List, refl, subst}
-use Rattle.surf_basis.specs.Cycles.{as_loops}
-use Rattle.surf_basis.specs.declared.cycle.Cycle.{Cycle}
-use Rattle.surf_text.specs.Pages.{grown, Stops}
-use Rattle.surf_texts.specs.MeasuredTexts.{measured_text}
-use Rattle.surf_answers.specs.LeastBasis.{GivesBasis}
+use Rattle.surf_answers.proofs.Common.{◌≡◌, List, refl, subst, as_loops, Cycle, grown, Stops, measured_text, GivesBasis, page_answered, page_stopped}
 use Rattle.surf_answers.proofs.FindingLaws.{gives_basis}
-use Rattle.surf_answers.proofs.Saying.{page_answered, page_stopped}
 use Rattle.surf_answers.proofs.basis.basis_of.Goals as goal
 
 pub returns-in_err-put_basis : goal.returns-in_err-put_basis

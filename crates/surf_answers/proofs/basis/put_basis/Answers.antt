@@ -1,9 +1,4 @@
-use Rattle.surf_surfaces.proofs.Common.{◌≡◌, ℕ, List, length, map, sym, subst, Err, sum, flat_map, err_from_is_err_and}
-use Rattle.surf_text.specs.Pages.{grown}
-use Rattle.surf_texts.specs.MeasuredTexts.{total_lines}
-use Rattle.surf_texts.specs.Fills.{Fills}
-use Rattle.surf_texts.proofs.Filling.{stopped_first, fills_both}
-use Rattle.surf_answers.specs.CycleTexts.{cycle_found_line}
+use Rattle.surf_answers.proofs.Common.{◌≡◌, ℕ, List, length, map, sym, subst, Err, sum, flat_map, err_from_is_err_and, grown, total_lines, Fills, stopped_first, fills_both, cycle_found_line}
 use Rattle.surf_answers.proofs.CycleLaws.{text_of_cycles}
 use Rattle.surf_answers.proofs.basis.put_basis.Goals as goal
 

@@ -1,9 +1,5 @@
-use Rattle.surf_surfaces.proofs.Common.{◌≡◌, ℕ, List, get_or, subst, Err, err_from_is_err_and}
-use Rattle.surf_basis.specs.declared.cycle.Cycle.{Cycle}
-use Rattle.surf_texts.specs.MeasuredTexts.{measured_line}
-use Rattle.surf_texts.specs.Fills.{Fills}
+use Rattle.surf_answers.proofs.Common.{◌≡◌, ℕ, List, get_or, subst, Err, err_from_is_err_and, Cycle, measured_line, Fills, cycle_found_line}
 use Rattle.surf_texts.proofs.Filling.{stopped}
-use Rattle.surf_answers.specs.CycleTexts.{cycle_found_line}
 use Rattle.surf_answers.proofs.basis.put_cycles.Goals as goal
 
 pub returns-in_err-put_cycle : goal.returns-in_err-put_cycle

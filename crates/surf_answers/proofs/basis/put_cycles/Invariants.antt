@@ -1,6 +1,4 @@
-use Rattle.surf_surfaces.proofs.Common.{◌≡◌, take, flat_map}
-use Rattle.surf_text.specs.Pages.{grown}
-use Rattle.surf_answers.specs.CycleTexts.{cycle_found_line}
+use Rattle.surf_answers.proofs.Common.{◌≡◌, take, flat_map, grown, cycle_found_line}
 use Rattle.surf_answers.proofs.basis.put_cycles.Given as goal
 
 abbrev pub invariant-loop-cycle : goal.invariant-loop-cycle

@@ -1,8 +1,5 @@
-use Rattle.std.proofs.Common.{refl}
-use Rattle.surf_cert.specs.Written.{basis_text}
-use Rattle.surf_answers.specs.Certificates.{GivesBasisCert}
+use Rattle.surf_answers.proofs.Common.{refl, basis_text, GivesBasisCert, page_answered, page_stopped}
 use Rattle.surf_answers.proofs.CertifyLaws.{gives_basis_cert}
-use Rattle.surf_answers.proofs.Saying.{page_answered, page_stopped}
 use Rattle.surf_answers.proofs.certificates.basis_cert_of.Goals as goal
 
 pub returns-in_err-write_basis_cert : goal.returns-in_err-write_basis_cert

@@ -1,5 +1,4 @@
-use Rattle.std.proofs.Common.{sym, subst}
-use Rattle.surf_loops.specs.Loops.{IsGreedy}
+use Rattle.surf_answers.proofs.Common.{sym, subst, IsGreedy}
 use Rattle.surf_answers.proofs.CertifyLaws.{is_the_loop_cert}
 use Rattle.surf_answers.proofs.certificates.chosen_loop_cert.Goals as goal
 

@@ -1,8 +1,5 @@
-use Rattle.std.proofs.Common.{refl}
-use Rattle.surf_cert.specs.Written.{loop_text}
-use Rattle.surf_answers.specs.Certificates.{GivesLoopCert}
+use Rattle.surf_answers.proofs.Common.{refl, loop_text, GivesLoopCert, page_answered, page_stopped}
 use Rattle.surf_answers.proofs.CertifyLaws.{gives_loop_cert}
-use Rattle.surf_answers.proofs.Saying.{page_answered, page_stopped}
 use Rattle.surf_answers.proofs.certificates.loop_cert_of.Goals as goal
 
 pub returns-in_err-write_loop_cert : goal.returns-in_err-write_loop_cert

@@ -1,9 +1,4 @@
-use Rattle.surf_surfaces.proofs.Common.{ℕ, List, subst, option_copied}
-use Rattle.surf_class.specs.Seen.{seen}
-use Rattle.surf_class.specs.Texts.{evidence_text}
-use Rattle.surf_text.specs.Pages.{Stops}
-use Rattle.surf_answers.specs.Classes.{evidence_words, GivesClass}
-use Rattle.surf_answers.proofs.Saying.{page_stopped}
+use Rattle.surf_answers.proofs.Common.{ℕ, List, subst, option_copied, seen, evidence_text, Stops, evidence_words, GivesClass, page_stopped}
 use Rattle.surf_answers.proofs.classes.class_of.Goals as goal
 
 pub returns-in_err-write_evidence : goal.returns-in_err-write_evidence

@@ -1,8 +1,4 @@
-use Rattle.surf_surfaces.proofs.Common.{sym, subst, Result, Ok, Err, IfOk, option_copied}
-use Rattle.surf_classes.specs.Evidence.{IsChosen, IsClassEvidence, joint_parity}
-use Rattle.surf_class.specs.Seen.{seen}
-use Rattle.surf_cotree.specs.Tables.{CotreeTables, split_with}
-use Rattle.surf_answers.specs.ChosenDesks.{IsChosenDesk}
+use Rattle.surf_answers.proofs.Common.{sym, subst, Result, Ok, Err, IfOk, option_copied, IsChosen, IsClassEvidence, joint_parity, seen, CotreeTables, split_with, IsChosenDesk}
 use Rattle.surf_answers.proofs.ChosenLaws.{class_evidence}
 use Rattle.surf_answers.proofs.classes.evidence_of.Goals as goal
 

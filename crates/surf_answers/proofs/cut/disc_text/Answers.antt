@@ -1,5 +1,4 @@
-use Rattle.surf_answers.specs.Cuts.{GivesOpened, cut_text}
-use Rattle.surf_answers.proofs.Saying.{page_stopped}
+use Rattle.surf_answers.proofs.Common.{GivesOpened, cut_text, page_stopped}
 use Rattle.surf_answers.proofs.cut.disc_text.Goals as goal
 
 pub returns-in_err-put_opened : goal.returns-in_err-put_opened

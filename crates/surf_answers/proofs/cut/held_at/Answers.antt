@@ -1,6 +1,4 @@
-use Rattle.std.proofs.Common.{◌≡◌, Bool, List, length, ap, ◌∙◌, sym, subst}
-use Rattle.surf_loops.specs.Loops.{with_cotree}
-use Rattle.surf_cutter.specs.Opened.{IsHeld, IsChosenFor, IsNearFor}
+use Rattle.surf_answers.proofs.Common.{◌≡◌, Bool, List, length, ap, ◌∙◌, sym, subst, with_cotree, IsHeld, IsChosenFor, IsNearFor}
 use Rattle.surf_answers.proofs.CutLaws.{desk_is_held, desk_cuts, desk_nears, desk_origins}
 use Rattle.surf_answers.proofs.cut.held_at.Goals as goal
 use Rattle.surf_answers.proofs.cut.held_at.Goals.{After-into_held}

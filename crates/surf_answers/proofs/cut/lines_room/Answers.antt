@@ -1,5 +1,4 @@
-use Rattle.surf_surfaces.proofs.Common.{◌≡◌, ◌<◌, ◌^◌, ℕ, get_or, ◌∙◌, ap, inl, inr, arith, cases_lt, All-from_get_or}
-use Rattle.surf_off.proofs.FaceRows.{other_default}
+use Rattle.surf_answers.proofs.Common.{◌≡◌, ◌<◌, ◌^◌, ℕ, get_or, ◌∙◌, ap, inl, inr, arith, cases_lt, All-from_get_or, other_default}
 use Rattle.surf_answers.proofs.cut.lines_room.Goals as goal
 
 pub loop-v-preserved : goal.loop-v-preserved

@@ -1,10 +1,6 @@
-use Rattle.surf_surfaces.proofs.Common.{◌≡◌, ◌<◌, ◌^◌, ℕ, List, length, sym, ap, ◌∙◌, subst, arith, All, IsFace, edge_count}
-use Rattle.surf_text.specs.Pages.{PageState, Puts}
-use Rattle.surf_off.specs.Written.{AreStarts, opened_text, rows_at, RereadsOpened}
-use Rattle.surf_off.proofs.FaceRows.{short_rows}
+use Rattle.surf_answers.proofs.Common.{◌≡◌, ◌<◌, ◌^◌, ℕ, List, length, sym, ap, ◌∙◌, subst, arith, All, IsFace, edge_count, PageState, Puts, AreStarts, opened_text, rows_at, RereadsOpened, short_rows, cut_text}
 use Rattle.surf_off.proofs.StartsOf.{tables_of}
 use Rattle.surf_answers.proofs.CopyLines.{copies_named}
-use Rattle.surf_answers.specs.Cuts.{cut_text}
 use Rattle.surf_answers.proofs.cut.put_opened.Goals as goal
 
 pub write_off-requires-clause-starts : goal.write_off-requires-clause-starts

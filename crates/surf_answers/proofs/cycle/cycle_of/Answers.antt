@@ -1,8 +1,5 @@
-use Rattle.std.proofs.Common.{refl}
-use Rattle.surf_answers.specs.CycleTexts.{found_text}
-use Rattle.surf_answers.specs.ShortestCycle.{GivesCycle}
+use Rattle.surf_answers.proofs.Common.{refl, found_text, GivesCycle, page_answered, page_stopped}
 use Rattle.surf_answers.proofs.FindingLaws.{gives_cycle}
-use Rattle.surf_answers.proofs.Saying.{page_answered, page_stopped}
 use Rattle.surf_answers.proofs.cycle.cycle_of.Goals as goal
 
 pub returns-in_err-put_found : goal.returns-in_err-put_found

@@ -1,6 +1,4 @@
-use Rattle.std.proofs.Common.{◌<◌, sym, subst}
-use Rattle.surf_surfaces.proofs.classes.ClassLaws.{some_vertex}
-use Rattle.surf_loops.specs.Loops.{IsGreedy}
+use Rattle.surf_answers.proofs.Common.{◌<◌, sym, subst, some_vertex, IsGreedy}
 use Rattle.surf_answers.proofs.ChosenLaws.{desk_chosen}
 use Rattle.surf_answers.proofs.desk.chosen_desk.Goals as goal
 

@@ -1,5 +1,4 @@
-use Rattle.std.proofs.Common.{ap}
-use Rattle.surf_loops.specs.Loops.{LoopTables}
+use Rattle.surf_answers.proofs.Common.{ap, LoopTables}
 use Rattle.surf_cover.proofs.Signed.{signed_after}
 use Rattle.surf_answers.proofs.desk.signed_desk.Goals as goal
 

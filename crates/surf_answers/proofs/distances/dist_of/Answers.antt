@@ -1,12 +1,6 @@
-use Rattle.surf_surfaces.proofs.Common.{◌≡◌, ◌∙◌, ℕ, List, refl, ap, subst, Mesh}
+use Rattle.surf_answers.proofs.Common.{◌≡◌, ◌∙◌, ℕ, List, refl, ap, subst, Mesh, TreeTables, tree_of, Outcome, tables_are_texts, GivesDistances, Says, page_answered, page_stopped}
 use Rattle.surf_tree.specs.Grown.{IsGrown}
-use Rattle.surf_tree.specs.Tables.{TreeTables, tree_of}
-use Rattle.surf_texts.specs.Outcome.{Outcome}
 use Rattle.surf_texts.specs.TreeTexts.{tables_text}
-use Rattle.surf_texts.proofs.TreeTextLaws.{tables_are_texts}
-use Rattle.surf_answers.specs.Distances.{GivesDistances}
-use Rattle.surf_answers.specs.Says.{Says}
-use Rattle.surf_answers.proofs.Saying.{page_answered, page_stopped}
 use Rattle.surf_answers.proofs.distances.dist_of.Goals as goal
 
 gives : (mesh : Mesh) (lengths : List ℕ) (base : ℕ) (t : TreeTables) (n : ℕ) → n ≡ mesh.vertices → IsGrown mesh lengths base t → (o : Outcome) →

@@ -1,6 +1,5 @@
-use Rattle.std.proofs.Common.{arith}
+use Rattle.surf_answers.proofs.Common.{arith, counts_are_at_most_two_more}
 use Rattle.surf_soup.proofs.HalfLaws.{edges_few}
-use Rattle.surf_orientation.proofs.GenusLaws.{counts_are_at_most_two_more}
 use Rattle.surf_answers.proofs.info.kind_loop_count.Goals as goal
 
 pub overflow_sub-result : goal.overflow_sub-result

@@ -1,5 +1,4 @@
-use Rattle.std.proofs.Common.{arith}
-use Rattle.surf_orientation.proofs.GenusLaws.{counts_are_at_most_two_more}
+use Rattle.surf_answers.proofs.Common.{arith, counts_are_at_most_two_more}
 use Rattle.surf_answers.proofs.info.loop_count.Goals as goal
 
 pub overflow_sub-result : goal.overflow_sub-result

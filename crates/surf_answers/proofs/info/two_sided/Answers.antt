@@ -1,8 +1,5 @@
-use Rattle.surf_surfaces.proofs.Common.{◌*◌, subst, sym, arith, ℕ, IsLoopCount, common_steps}
+use Rattle.surf_answers.proofs.Common.{◌*◌, subst, sym, arith, ℕ, IsLoopCount, common_steps, genus_is_loop_count, HasGenus, ends_as}
 use Rattle.surf_check.specs.Growth.{flag_of}
-use Rattle.surf_orientation.proofs.GenusLaws.{genus_is_loop_count}
-use Rattle.surf_answers.specs.Info.{HasGenus}
-use Rattle.surf_answers.proofs.Saying.{ends_as}
 use Rattle.surf_answers.proofs.info.two_sided.Goals as goal
 
 pub returns : goal.returns

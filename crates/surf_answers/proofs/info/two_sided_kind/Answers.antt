@@ -1,7 +1,4 @@
-use Rattle.surf_surfaces.proofs.Common.{◌/◌, arith, common_steps}
-use Rattle.surf_orientation.proofs.GenusLaws.{genus_is_loop_count}
-use Rattle.surf_answers.specs.Info.{HasGenus}
-use Rattle.surf_answers.proofs.Saying.{ends_as}
+use Rattle.surf_answers.proofs.Common.{◌/◌, arith, common_steps, genus_is_loop_count, HasGenus, ends_as}
 use Rattle.surf_answers.proofs.info.two_sided_kind.Goals as goal
 
 pub returns : goal.returns

@@ -1,9 +1,5 @@
-use Rattle.std.proofs.Common.{refl}
-use Rattle.surf_loops.specs.Loops.{with_cotree}
-use Rattle.surf_answers.specs.HeadTexts.{heads_text}
-use Rattle.surf_answers.specs.LeastLoops.{GivesLoops}
+use Rattle.surf_answers.proofs.Common.{refl, with_cotree, heads_text, GivesLoops, page_answered, page_stopped}
 use Rattle.surf_answers.proofs.HeadLaws.{gives_loops, heads_inside}
-use Rattle.surf_answers.proofs.Saying.{page_answered, page_stopped}
 use Rattle.surf_answers.proofs.loops.loops_of.Goals as goal
 
 pub put_answer-requires-clause-rooted : goal.put_answer-requires-clause-rooted

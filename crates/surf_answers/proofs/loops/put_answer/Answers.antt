@@ -1,9 +1,4 @@
-use Rattle.surf_surfaces.proofs.Common.{◌≡◌, List, subst, Err, flat_map, err_from_is_err_and}
-use Rattle.surf_loops.specs.declared.head.LoopHead.{LoopHead}
-use Rattle.surf_text.specs.Pages.{grown}
-use Rattle.surf_texts.specs.Fills.{Fills}
-use Rattle.surf_texts.proofs.Filling.{stopped_first, fills_both}
-use Rattle.surf_answers.specs.HeadTexts.{head_line, loop_heads_text}
+use Rattle.surf_answers.proofs.Common.{◌≡◌, List, subst, Err, flat_map, err_from_is_err_and, LoopHead, grown, Fills, stopped_first, fills_both, head_line, loop_heads_text}
 use Rattle.surf_answers.proofs.loops.put_answer.Goals as goal
 
 pub returns-in_err-put_head : goal.returns-in_err-put_head

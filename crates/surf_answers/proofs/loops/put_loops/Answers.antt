@@ -1,10 +1,5 @@
-use Rattle.surf_surfaces.proofs.Common.{◌≡◌, ◌<◌, ◌∙◌, ℕ, List, length, get_or, ap, subst, Err, err_from_is_err_and}
-use Rattle.surf_loops.specs.declared.head.LoopHead.{LoopHead}
-use Rattle.surf_text.specs.declared.page.PageFault.TheVariants.{Memory}
-use Rattle.surf_texts.specs.Fills.{Fills}
-use Rattle.surf_texts.specs.MeasuredTexts.{measured_line}
-use Rattle.surf_texts.proofs.Filling.{none_put, stopped}
-use Rattle.surf_answers.specs.HeadTexts.{head_line}
+use Rattle.surf_answers.proofs.Common.{◌≡◌, ◌<◌, ◌∙◌, ℕ, List, length, get_or, ap, subst, Err, err_from_is_err_and, LoopHead, Memory, Fills, measured_line, none_put, head_line}
+use Rattle.surf_texts.proofs.Filling.{stopped}
 use Rattle.surf_answers.proofs.loops.put_loops.Goals as goal
 
 pub returns-in_err-put_loop : goal.returns-in_err-put_loop

@@ -1,6 +1,4 @@
-use Rattle.surf_surfaces.proofs.Common.{◌≡◌, take, flat_map}
-use Rattle.surf_text.specs.Pages.{grown}
-use Rattle.surf_answers.specs.HeadTexts.{head_line}
+use Rattle.surf_answers.proofs.Common.{◌≡◌, take, flat_map, grown, head_line}
 use Rattle.surf_answers.proofs.loops.put_loops.Given as goal
 
 abbrev pub invariant-loop-head : goal.invariant-loop-head

@@ -1,8 +1,4 @@
-use Rattle.surf_surfaces.proofs.Common.{subst, edge_count}
-use Rattle.surf_text.specs.Pages.{Stops}
-use Rattle.surf_off.specs.Written.{soup_text, RereadsSoup}
-use Rattle.surf_answers.specs.Making.{GivesMesh}
-use Rattle.surf_answers.proofs.Saying.{page_stopped}
+use Rattle.surf_answers.proofs.Common.{subst, edge_count, Stops, soup_text, RereadsSoup, GivesMesh, page_stopped}
 use Rattle.surf_answers.proofs.meshes.made_of.Goals as goal
 
 pub returns-in_err-write_soup : goal.returns-in_err-write_soup

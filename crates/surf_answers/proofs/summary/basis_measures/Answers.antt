@@ -1,7 +1,5 @@
-use Rattle.std.proofs.Common.{◌≡◌, ◌∙◌, List, [], ◌∷◌, map, ap, refl, sym, Option, Some, subst}
-use Rattle.std.specs.Prelude.{sum, IfSome, slice_get}
-use Rattle.surf_basis.specs.Cycles.{first_of, as_loops, IsFirstCandidate, IsShortestCycle}
-use Rattle.surf_basis.specs.declared.cycle.Cycle.{Cycle}
+use Rattle.surf_answers.proofs.Common.{◌≡◌, ◌∙◌, List, [], ◌∷◌, map, ap, refl, sym, Option, Some, subst, sum, IfSome, first_of, as_loops, IsFirstCandidate, IsShortestCycle, Cycle}
+use Rattle.std.specs.Prelude.{slice_get}
 use Rattle.surf_answers.proofs.CycleLaws.{as_long}
 use Rattle.surf_answers.proofs.SummaryLaws.{totals_so, measures_so}
 use Rattle.surf_answers.proofs.summary.basis_measures.Goals as goal

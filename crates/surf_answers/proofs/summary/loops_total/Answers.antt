@@ -1,7 +1,4 @@
-use Rattle.surf_surfaces.proofs.Common.{◌<◌, ◌∙◌, List, map, ap, subst, sym, sum}
-use Rattle.surf_surfaces.proofs.classes.ClassLaws.{some_vertex}
-use Rattle.surf_loops.specs.Loops.{with_cotree, IsGreedy, trees_of}
-use Rattle.surf_loops.specs.declared.head.LoopHead.{LoopHead}
+use Rattle.surf_answers.proofs.Common.{◌<◌, ◌∙◌, List, map, ap, subst, sym, sum, some_vertex, with_cotree, IsGreedy, trees_of, LoopHead}
 use Rattle.surf_answers.proofs.HeadLaws.{heads_total}
 use Rattle.surf_answers.proofs.summary.loops_total.Goals as goal
 

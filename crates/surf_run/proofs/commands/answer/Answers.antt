@@ -1,9 +1,6 @@
-use Rattle.std.proofs.Common.{[], Some, inr, sym, subst}
-use Rattle.surf_run.specs.Commands.{OnRequest}
-use Rattle.surf_words.specs.Words.{gen_shape, try_shape, request}
-use Rattle.surf_answers.specs.Tells.{Concludes, ConcludesOver}
+use Rattle.surf_answers.proofs.Common.{[], Some, inr, sym, subst, Concludes, ConcludesOver}
+use Rattle.surf_run.proofs.Common.{OnRequest, gen_shape, try_shape, request, ends_over_any, reads_nothing}
 use Rattle.surf_words.specs.declared.words.Command.{Command}
-use Rattle.surf_run.proofs.Composing.{ends_over_any, reads_nothing}
 use Rattle.surf_run.proofs.commands.answer.Goals as goal
 
 pub returns-in-Check-clause-tells : goal.returns-in-Check-clause-tells

@@ -1,7 +1,5 @@
-use Rattle.surf_surfaces.proofs.Common.{Ok, sym, subst, Option, IfSome}
-use Rattle.surf_base.specs.Outside.{Files}
-use Rattle.surf_run.specs.Reading.{Reads}
-use Rattle.surf_run.proofs.TextsAt.{mesh_taken, mesh_held}
+use Rattle.surf_answers.proofs.Common.{Ok, sym, subst, Option, IfSome}
+use Rattle.surf_run.proofs.Common.{Files, Reads, mesh_taken, mesh_held}
 use Rattle.surf_run.proofs.reading.mesh_through.Goals as goal
 
 pub returns-clause-tells : goal.returns-clause-tells

@@ -1,9 +1,5 @@
-use Rattle.std.proofs.Common.{Err, refl}
-use Rattle.surf_run.specs.Fronts.{MeasuresSurface}
-use Rattle.surf_run.specs.Reading.{IsSurfaceText}
-use Rattle.surf_run.proofs.Composing.{begun, over, past, stopped, last_stopped, refused}
-use Rattle.surf_run.proofs.Fronts.{measured_so}
-use Rattle.surf_run.proofs.TextsAt.{text_stopped}
+use Rattle.surf_answers.proofs.Common.{Err, refl}
+use Rattle.surf_run.proofs.Common.{MeasuresSurface, IsSurfaceText, begun, over, past, stopped, last_stopped, refused, measured_so, text_stopped}
 use Rattle.surf_run.proofs.surfaces.measured_surface.Goals as goal
 
 pub returns-in_err-mesh-clause-tells : goal.returns-in_err-mesh-clause-tells

@@ -1,9 +1,5 @@
-use Rattle.std.proofs.Common.{Err, refl}
-use Rattle.surf_run.specs.Fronts.{MeasuresSmall}
-use Rattle.surf_run.specs.Reading.{IsSurfaceText}
-use Rattle.surf_run.proofs.Composing.{begun, over, past, stopped, last_stopped, refused}
-use Rattle.surf_run.proofs.Fronts.{small_so}
-use Rattle.surf_run.proofs.TextsAt.{text_stopped}
+use Rattle.surf_answers.proofs.Common.{Err, refl}
+use Rattle.surf_run.proofs.Common.{MeasuresSmall, IsSurfaceText, begun, over, past, stopped, last_stopped, refused, small_so, text_stopped}
 use Rattle.surf_run.proofs.surfaces.small_surface.Goals as goal
 
 pub returns-in_err-mesh-clause-tells : goal.returns-in_err-mesh-clause-tells

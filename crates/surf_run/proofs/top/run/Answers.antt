@@ -1,10 +1,5 @@
-use Rattle.std.proofs.Common.{◌⊎◌, inl, inr, ◌<◌, ◌≤◌, ℕ, List, refl, subst, sym, arith}
-use Rattle.surf_base.specs.Outside.{Files, GrowsBy}
-use Rattle.surf_base.specs.Transfer.{GrowsByShorter}
-use Rattle.surf_texts.specs.Refusals.{cause_of}
-use Rattle.surf_run.specs.Run.{AreTheFiles, WritesAnswer}
-use Rattle.surf_words.specs.Words.{request}
-use Rattle.surf_words.specs.Words.{request_of, texts}
+use Rattle.surf_answers.proofs.Common.{◌⊎◌, inl, inr, ◌<◌, ◌≤◌, ℕ, List, refl, subst, sym, arith, cause_of}
+use Rattle.surf_run.proofs.Common.{Files, GrowsBy, GrowsByShorter, AreTheFiles, WritesAnswer, request, request_of, texts}
 use Rattle.surf_run.proofs.Refusals.{refusals_are_proper}
 use Rattle.surf_run.proofs.Running.{no_row, written, cut_off, write_fault_said, told_why, told_unread, undecided, verdicts_are_low, missing_file, refuses_high, told_named}
 use Rattle.surf_run.proofs.Unique.{completes}

@@ -1,8 +1,5 @@
-use Rattle.std.proofs.Common.{refl}
-use Rattle.surf_base.specs.declared.limits.LimitKind.TheVariants.{CertificateVertices}
-use Rattle.surf_answers.specs.Certificates.{GivesBasisCert}
-use Rattle.surf_run.proofs.Composing.{over, ended, stopped_over}
-use Rattle.surf_run.proofs.Fronts.{small_front}
+use Rattle.surf_answers.proofs.Common.{refl, CertificateVertices, GivesBasisCert}
+use Rattle.surf_run.proofs.Common.{over, ended, stopped_over, small_front}
 use Rattle.surf_run.proofs.commands.certify_basis.answer.Goals as goal
 
 pub returns-in_err-mesh-clause-tells : goal.returns-in_err-mesh-clause-tells

@@ -1,12 +1,5 @@
-use Rattle.surf_surfaces.proofs.Common.{ℕ, List, refl, Mesh}
-use Rattle.surf_base.specs.Outside.{Files}
-use Rattle.surf_base.specs.declared.limits.LimitKind.TheVariants.{CertificateVertices}
-use Rattle.surf_texts.specs.Outcome.{Outcome}
-use Rattle.surf_answers.specs.Verdicts.{JudgesCert}
-use Rattle.surf_run.specs.Reading.{Reads, IsCertText, tree_count}
-use Rattle.surf_run.specs.Steps.{Ends, AtMost}
-use Rattle.surf_run.proofs.Composing.{over, ended, stopped_over}
-use Rattle.surf_run.proofs.Fronts.{measured_front}
+use Rattle.surf_answers.proofs.Common.{ℕ, List, refl, Mesh, CertificateVertices, Outcome}
+use Rattle.surf_run.proofs.Common.{Files, JudgesCert, Reads, IsCertText, tree_count, Ends, AtMost, over, ended, stopped_over, measured_front}
 use Rattle.surf_run.proofs.commands.check.answer.Goals as goal
 
 -- what follows the front of the row

@@ -1,10 +1,5 @@
-use Rattle.std.proofs.Common.{◌≡◌, List, ℕ, ap, ◌∙◌, refl, subst}
-use Rattle.surf_off.specs.Off.{OffParts}
-use Rattle.surf_off.specs.Places.{parts_at}
-use Rattle.surf_words.specs.Words.{extent_of}
-use Rattle.surf_answers.specs.Cuts.{GivesOpened}
-use Rattle.surf_answers.specs.Tells.{Concludes}
-use Rattle.surf_run.proofs.Composing.{begun, over, past, ended, stopped, stopped_over}
+use Rattle.surf_answers.proofs.Common.{◌≡◌, List, ℕ, ap, ◌∙◌, refl, subst, GivesOpened, Concludes}
+use Rattle.surf_run.proofs.Common.{OffParts, parts_at, extent_of, begun, over, past, ended, stopped, stopped_over}
 use Rattle.surf_run.proofs.Cutting.{in_one_step}
 use Rattle.surf_run.proofs.commands.cut.answer.Goals as goal
 

@@ -1,7 +1,5 @@
-use Rattle.std.proofs.Common.{Err, refl}
-use Rattle.surf_words.specs.Words.{extent_of}
-use Rattle.surf_run.specs.Cutting.{CutsOpen}
-use Rattle.surf_run.proofs.Composing.{begun, over, past, stopped, stopped_over, refused}
+use Rattle.surf_answers.proofs.Common.{Err, refl}
+use Rattle.surf_run.proofs.Common.{extent_of, CutsOpen, begun, over, past, stopped, stopped_over, refused}
 use Rattle.surf_run.proofs.Cutting.{cut_open}
 use Rattle.surf_run.proofs.commands.cut.open_surface.Goals as goal
 

@@ -1,8 +1,5 @@
-use Rattle.std.proofs.Common.{refl}
-use Rattle.surf_base.specs.declared.limits.LimitKind.TheVariants.{BasisVertices}
-use Rattle.surf_answers.specs.ShortestCycle.{GivesCycle}
-use Rattle.surf_run.proofs.Composing.{over, ended, stopped_over}
-use Rattle.surf_run.proofs.Fronts.{small_front}
+use Rattle.surf_answers.proofs.Common.{refl, BasisVertices, GivesCycle}
+use Rattle.surf_run.proofs.Common.{over, ended, stopped_over, small_front}
 use Rattle.surf_run.proofs.commands.cycle.answer.Goals as goal
 
 pub returns-in_err-mesh-clause-tells : goal.returns-in_err-mesh-clause-tells

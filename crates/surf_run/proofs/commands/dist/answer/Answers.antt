@@ -1,6 +1,4 @@
-use Rattle.surf_run.specs.Reading.{IsSurfaceText}
-use Rattle.surf_run.proofs.Composing.{begun, over, past, ended, stopped, stopped_over}
-use Rattle.surf_run.proofs.TextsAt.{text_stopped}
+use Rattle.surf_run.proofs.Common.{IsSurfaceText, begun, over, past, ended, stopped, stopped_over, text_stopped}
 use Rattle.surf_run.proofs.commands.dist.answer.Goals as goal
 
 pub returns-in_err-mesh-clause-tells : goal.returns-in_err-mesh-clause-tells

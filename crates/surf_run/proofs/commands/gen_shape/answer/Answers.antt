@@ -1,7 +1,5 @@
-use Rattle.surf_surfaces.proofs.Common.{subst, Mesh}
-use Rattle.surf_answers.specs.Making.{GivesMesh}
-use Rattle.surf_answers.specs.Tells.{Concludes}
-use Rattle.surf_run.proofs.Composing.{alone, past_alone, stopped_alone}
+use Rattle.surf_answers.proofs.Common.{subst, Mesh, GivesMesh, Concludes}
+use Rattle.surf_run.proofs.Common.{alone, past_alone, stopped_alone}
 use Rattle.surf_run.proofs.commands.gen_shape.answer.Goals as goal
 
 pub returns-in_err-test_vertices : goal.returns-in_err-test_vertices

@@ -1,6 +1,4 @@
-use Rattle.surf_run.specs.Reading.{IsSurfaceText}
-use Rattle.surf_run.proofs.Composing.{begun, over, past, ended}
-use Rattle.surf_run.proofs.TextsAt.{text_stopped}
+use Rattle.surf_run.proofs.Common.{IsSurfaceText, begun, over, past, ended, text_stopped}
 use Rattle.surf_run.proofs.commands.info.answer.Goals as goal
 
 pub returns-in_err-kind-clause-tells : goal.returns-in_err-kind-clause-tells

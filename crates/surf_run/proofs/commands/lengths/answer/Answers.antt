@@ -1,11 +1,6 @@
-use Rattle.std.proofs.Common.{◌≡◌, List, ℕ, Ok, Err, ap, ◌∙◌, refl, subst}
-use Rattle.surf_off.specs.Off.{OffParts}
-use Rattle.surf_off.specs.Places.{parts_at}
-use Rattle.surf_texts.specs.Outcome.{Outcome}
-use Rattle.surf_texts.specs.Refusals.{cause_of}
+use Rattle.surf_answers.proofs.Common.{◌≡◌, List, ℕ, Ok, Err, ap, ◌∙◌, refl, subst, Outcome, cause_of, Why}
+use Rattle.surf_run.proofs.Common.{OffParts, parts_at, begun, over, past, ended, stopped}
 use Rattle.surf_answers.specs.Lengths.{Measures}
-use Rattle.surf_answers.specs.Tells.{Why}
-use Rattle.surf_run.proofs.Composing.{begun, over, past, ended, stopped}
 use Rattle.surf_run.proofs.commands.lengths.answer.Goals as goal
 
 pub returns-in_err-places-clause-tells : goal.returns-in_err-places-clause-tells

@@ -1,11 +1,5 @@
-use Rattle.surf_surfaces.proofs.Common.{ℕ, List, refl, Mesh}
-use Rattle.surf_base.specs.Outside.{Files}
-use Rattle.surf_texts.specs.Outcome.{Outcome}
-use Rattle.surf_answers.specs.LeastLoops.{GivesLoops}
-use Rattle.surf_run.specs.Reading.{HasBase}
-use Rattle.surf_run.specs.Steps.{Ends}
-use Rattle.surf_run.proofs.Composing.{over, past, ended, stopped, stopped_over}
-use Rattle.surf_run.proofs.Fronts.{measured_front}
+use Rattle.surf_answers.proofs.Common.{ℕ, List, refl, Mesh, Outcome, GivesLoops}
+use Rattle.surf_run.proofs.Common.{Files, HasBase, Ends, over, past, ended, stopped, stopped_over, measured_front}
 use Rattle.surf_run.proofs.commands.loops.answer.Goals as goal
 
 -- what follows the front of the row

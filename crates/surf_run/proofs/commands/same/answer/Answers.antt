@@ -1,9 +1,5 @@
-use Rattle.std.proofs.Common.{Some}
-use Rattle.surf_words.specs.Words.{same}
-use Rattle.surf_run.specs.Commands.{OnRequest}
-use Rattle.surf_run.specs.Reading.{IsSurfaceText}
-use Rattle.surf_run.proofs.Composing.{resumed}
-use Rattle.surf_run.proofs.TextsAt.{text_stopped}
+use Rattle.surf_answers.proofs.Common.{Some}
+use Rattle.surf_run.proofs.Common.{same, OnRequest, IsSurfaceText, resumed, text_stopped}
 use Rattle.surf_run.proofs.commands.same.answer.Goals as goal
 
 pub returns-in_err-mesh-clause-tells : goal.returns-in_err-mesh-clause-tells

@@ -1,9 +1,5 @@
-use Rattle.std.proofs.Common.{ℕ, List, Ok, Err, subst}
-use Rattle.surf_texts.specs.Outcome.{Outcome}
-use Rattle.surf_texts.specs.Refusals.{cause_of}
-use Rattle.surf_answers.specs.Tells.{Concludes, Why}
-use Rattle.surf_run.specs.Sewing.{HasOrigins, IsSewn, OnSewnMesh}
-use Rattle.surf_run.proofs.Composing.{alone, past_alone, stopped_alone}
+use Rattle.surf_answers.proofs.Common.{ℕ, List, Ok, Err, subst, Outcome, cause_of, Concludes, Why}
+use Rattle.surf_run.proofs.Common.{HasOrigins, IsSewn, OnSewnMesh, alone, past_alone, stopped_alone}
 use Rattle.surf_run.proofs.commands.sew.sew_mesh.Goals as goal
 
 pub returns-in_err-origins : goal.returns-in_err-origins

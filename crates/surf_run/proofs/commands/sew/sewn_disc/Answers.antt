@@ -1,9 +1,6 @@
-use Rattle.std.proofs.Common.{inr}
-use Rattle.surf_run.specs.Sewing.{OnSewnMesh}
+use Rattle.surf_answers.proofs.Common.{inr}
+use Rattle.surf_run.proofs.Common.{OnSewnMesh, Ends, IsSurfaceOf, concludes_so}
 use Rattle.surf_answers.specs.Sewing.{GivesSewn}
-use Rattle.surf_run.specs.Steps.{Ends}
-use Rattle.surf_run.specs.Reading.{IsSurfaceOf}
-use Rattle.surf_run.proofs.Composing.{concludes_so}
 use Rattle.surf_run.proofs.commands.sew.sewn_disc.Goals as goal
 
 pub returns-in-Ok : goal.returns-in-Ok

@@ -1,8 +1,5 @@
-use Rattle.surf_surfaces.proofs.Common.{◌<◌, ℕ, List, sym, subst, Mesh, loop_count}
-use Rattle.surf_gen.specs.Made.{made_values}
-use Rattle.surf_answers.specs.Summaries.{GivesSummary}
-use Rattle.surf_answers.specs.Tells.{Concludes}
-use Rattle.surf_run.proofs.Composing.{alone, past_alone, stopped_alone}
+use Rattle.surf_answers.proofs.Common.{◌<◌, ℕ, List, sym, subst, Mesh, loop_count, GivesSummary, Concludes}
+use Rattle.surf_run.proofs.Common.{made_values, alone, past_alone, stopped_alone}
 use Rattle.surf_run.proofs.commands.try_shape.answer.Goals as goal
 
 pub returns-in_err-test_vertices : goal.returns-in_err-test_vertices
