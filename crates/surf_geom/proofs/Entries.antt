@@ -1,5 +1,6 @@
 -- The lines of a written length file, and what each of them says.
 use Rattle.surf_surfaces.proofs.Common.{◌≡◌, ◌<◌, ◌+◌, ◌^◌, ℕ, false, List, [], ◌∷◌, ◌++◌, Some, None, Option, Ok, refl, sym, ◌∙◌, ap, append_assoc, arith, codes, decimal, bytes_eq, lt-ltb, le-leb, false_from_ne_true, append-nil, Mesh, edge_count, ends, bytes_eq-Decides}
+use Rattle.std.specs.List.{flat_map}
 use Rattle.surf_text.specs.Text.{tokens_of, whole}
 use Rattle.surf_off.specs.Clean.{IsClean}
 use Rattle.surf_off.proofs.Decimals.{whole_decimal}
@@ -9,6 +10,9 @@ use Rattle.surf_lengths.specs.Lengths.{IsLength, longest}
 use Rattle.surf_lengths.specs.Lines.{as_length, edge_named, entry_of, begins_with}
 use Rattle.surf_lengths.proofs.EdgeNames.{an_edge}
 use Rattle.surf_geom.specs.Texts.{entry_text}
+
+abbrev pub entries_text : List ((ℕ × ℕ) × ℕ) → List ℕ
+entries_text entries = flat_map (λ entry. entry_text entry.0 entry.1) entries
 
 -- an edge of the mesh and its length
 pub record IsEntry (mesh : Mesh) (e : ℕ) (entry : (ℕ × ℕ) × ℕ) : Type 0 where

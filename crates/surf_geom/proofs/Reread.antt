@@ -7,10 +7,11 @@ use Rattle.surf_text.specs.Text.{TextLine, lines_of}
 use Rattle.surf_off.proofs.Reread.{lines_from}
 use Rattle.surf_lengths.specs.Lengths.{AreLengths}
 use Rattle.surf_lengths.specs.Lines.{entry_of}
-use Rattle.surf_lengths.specs.Files.{Named, none_named, name_edge, name_line, length_head, when_read, behind_head, lengths_in}
+use Rattle.surf_base.specs.Gives.{◌>>=◌}
+use Rattle.surf_lengths.specs.Files.{Named, none_named, name_edge, name_line, length_head, lengths_in}
 use Rattle.surf_lengths.specs.declared.fault.LengthFault.{LengthFault}
-use Rattle.surf_geom.specs.Texts.{entries_text, lengths_text}
-use Rattle.surf_geom.proofs.Entries.{IsEntry, line_of, entry_first, entry_is, no_version}
+use Rattle.surf_geom.specs.Texts.{lengths_text}
+use Rattle.surf_geom.proofs.Entries.{IsEntry, entries_text, line_of, entry_first, entry_is, no_version}
 
 -- entries for the edges from a number on
 unfoldable AreEntries : Mesh → ℕ → List ((ℕ × ℕ) × ℕ) → Type 0
@@ -44,7 +45,7 @@ length_more : (xs : List ℕ) (x e : ℕ) → length xs ≡ e → length (xs ++ 
 length_more xs x e is = omega (arith, Rattle.std.proofs.Common.length-append xs (x ∷ []))
 
 one_named : (e l n rest : ℕ) (front marks : List ℕ) → length front ≡ e → length marks ≡ e →
-    name_edge (before_lines front marks (suc rest)) l (Ok (e, n)) ≡ Ok (before_lines (front ++ n ∷ []) (marks ++ l ∷ []) rest)
+    name_edge (before_lines front marks (suc rest)) l (e, n) ≡ Ok (before_lines (front ++ n ∷ []) (marks ++ l ∷ []) rest)
 one_named e l n rest front marks long also =
     let free : get_or (marks ++ replicate (suc rest) 0) e 0 ≡ 0 = get-append_seam marks (replicate rest 0) 0 0 e also in
     let lengths : set (front ++ replicate (suc rest) 0) e n ≡ (front ++ n ∷ []) ++ replicate rest 0 =
@@ -59,8 +60,8 @@ all_named : (mesh : Mesh) (e : ℕ) (xs : List ((ℕ × ℕ) × ℕ)) (front mar
 unfolding AreEntries text_lines name_line
 all_named mesh e [] front marks all long also = refl
 all_named mesh e (x ∷ xs) front marks all long also =
-    let first : name_edge (before_lines front marks (suc (length xs))) (e + 1) (entry_of mesh (record { number = e + 1; bytes = line_of x })) ≡ Ok (before_lines (front ++ x.1 ∷ []) (marks ++ (e + 1) ∷ []) (length xs)) =
-    ap (name_edge (before_lines front marks (suc (length xs))) (e + 1)) (entry_is mesh e x all.0 (e + 1)) ∙ one_named e (e + 1) x.1 (length xs) front marks long also in
+    let first : entry_of mesh (record { number = e + 1; bytes = line_of x }) >>= name_edge (before_lines front marks (suc (length xs))) (e + 1) ≡ Ok (before_lines (front ++ x.1 ∷ []) (marks ++ (e + 1) ∷ []) (length xs)) =
+    ap (λ r. r >>= name_edge (before_lines front marks (suc (length xs))) (e + 1)) (entry_is mesh e x all.0 (e + 1)) ∙ one_named e (e + 1) x.1 (length xs) front marks long also in
     let later = all_named mesh (e + 1) xs (front ++ x.1 ∷ []) (marks ++ (e + 1) ∷ []) all.1 (length_more front x.1 e long) (length_more marks (e + 1) e also) in
     ap (λ (r : Result Named LengthFault). fold (name_line mesh) r (text_lines (e + 1 + 1) xs)) first ∙ later
     ∙ ap (λ (ns : List ℕ). Ok (record { lengths = ns; lines = (marks ++ (e + 1) ∷ []) ++ range_with_len (e + 1 + 1) (length xs) })) (pushed-append front (map (λ x. x.1) xs) x.1)
@@ -107,4 +108,4 @@ reread mesh lengths is_mesh small are count =
     let start : fold (name_line mesh) (Ok (none_named mesh None)) (text_lines 1 xs) ≡ Ok (record { lengths = lengths; lines = range_with_len 1 m }) =
     ap (λ (n : ℕ). fold (name_line mesh) (Ok (before_lines [] [] n)) (text_lines 1 xs)) (sym long) ∙ names
     ∙ ap (λ (ns : List ℕ). Ok (record { lengths = ns; lines = range_with_len 1 (length xs) })) seconds ∙ ap (λ (n : ℕ). Ok (record { lengths = lengths; lines = range_with_len 1 n })) long in
-    ap (λ (ls : List TextLine). behind_head mesh (length_head ls)) lines ∙ ap (behind_head mesh) (plain_head mesh xs all) ∙ ap (when_read mesh None) start ∙ rw (none_missing m) refl
+    rw (lines, plain_head mesh xs all, start, none_missing m) refl

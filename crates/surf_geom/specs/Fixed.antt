@@ -4,6 +4,7 @@ use Rattle.std.specs.Prelude.{length, drop, Option, Some, None, option_map, Resu
 use Rattle.std.specs.Prelude.{neg_ℤ}
 use Rattle.std.specs.Char.{is_ascii_digit}
 use Rattle.std.specs.List.{before_first, after_first, position, list_all}
+use Rattle.std.specs.Option.{option_map_or}
 use Rattle.surf_text.specs.Text.{is_nonempty, value_of, whole}
 use Rattle.surf_geom.specs.declared.fault.FixedFault.{FixedFault}
 use Rattle.surf_geom.specs.declared.fault.FixedFault.TheVariants.{Form, Range}
@@ -47,8 +48,7 @@ behind_letter text = option_map (λ place. drop (place + 1) text) (position is_l
 
 -- Without a letter a number is neither raised nor lowered.
 abbrev pub exponent_of : Option (List ℕ) → Option (ℕ × ℕ)
-exponent_of None = Some (0, 0)
-exponent_of (Some text) = exponent_in text
+exponent_of text = option_map_or exponent_in text (Some (0, 0))
 
 -- A number: its sign, the digits before and behind the point, and by how many powers of ten it is raised and lowered.
 pub record Decimal : Type 0 where
@@ -62,21 +62,20 @@ pub record Decimal : Type 0 where
 abbrev pub are_digits : List ℕ → Bool
 are_digits text = is_nonempty text && list_all is_ascii_digit text
 
-abbrev pub raised_by : Bool → List ℕ → Option (ℕ × ℕ) → Option Decimal
-raised_by negative mantissa None = None
-raised_by negative mantissa (Some x) = Some (record {
+abbrev pub raised_by : Bool → List ℕ → ℕ × ℕ → Decimal
+raised_by negative mantissa x = record {
   negative = negative;
   front = before_first is_point mantissa;
   behind = after_first is_point mantissa;
   raised = x.0;
   lowered = x.1;
-})
+}
 
 -- digits with at most one point among, before or behind them, with a sign, and raised by an exponent if there is one
 abbrev pub decimal_of : Bool → List ℕ → Option (ℕ × ℕ) → Option Decimal
 decimal_of negative mantissa exponent =
     if are_digits (before_first is_point mantissa ++ after_first is_point mantissa)
-    then raised_by negative mantissa exponent
+    then option_map (raised_by negative mantissa) exponent
     else None
 
 -- The number that a token has the form of: an optional sign, a mantissa, and optionally a letter and an exponent

@@ -1,6 +1,6 @@
 -- The length files that are written, of version 1.
-use Rattle.std.specs.Prelude.{◌≡◌, ℕ, List, [], ◌∷◌, ◌++◌, codes, decimal, Ok}
-use Rattle.std.specs.List.{zip}
+use Rattle.std.specs.Prelude.{◌≡◌, ℕ, List, ◌++◌, codes, decimal, Ok}
+use Rattle.std.specs.List.{flat_map, zip}
 use Rattle.surf_surfaces.specs.Mesh.{Mesh, edges}
 use Rattle.surf_lengths.specs.Files.{lengths_in}
 
@@ -8,13 +8,9 @@ use Rattle.surf_lengths.specs.Files.{lengths_in}
 abbrev pub entry_text : ℕ × ℕ → ℕ → List ℕ
 entry_text edge n = decimal edge.0 ++ (codes " " ++ (decimal edge.1 ++ (codes " " ++ (decimal n ++ codes "\n"))))
 
-abbrev pub entries_text : List ((ℕ × ℕ) × ℕ) → List ℕ
-entries_text [] = []
-entries_text (entry ∷ entries) = entry_text entry.0 entry.1 ++ entries_text entries
-
 -- a line for each edge in order
 abbrev pub lengths_text : Mesh → List ℕ → List ℕ
-lengths_text mesh lengths = entries_text (zip (edges mesh) lengths)
+lengths_text mesh lengths = flat_map (λ entry. entry_text entry.0 entry.1) (zip (edges mesh) lengths)
 
 -- Read as a length file of the mesh, the text gives these lengths.
 abbrev pub RereadsLengths : Mesh → List ℕ → Type 0

@@ -2,7 +2,8 @@ use Rattle.surf_surfaces.proofs.Common.{◌≡◌, ◌<◌, ℕ, List, length, g
 use Rattle.std.proofs.lemmas.Slice.Zip.{length-zip, get_or-zip}
 use Rattle.surf_text.specs.Pages.{Puts}
 use Rattle.surf_text.proofs.Writing.{loop_more, loop_stop, loop_done}
-use Rattle.surf_geom.specs.Texts.{entry_text, entries_text}
+use Rattle.surf_geom.specs.Texts.{entry_text}
+use Rattle.surf_geom.proofs.Entries.{entries_text}
 use Rattle.surf_geom.proofs.Reread.{reread}
 use Rattle.surf_geom.proofs.write.write_lengths.Goals as goal
 

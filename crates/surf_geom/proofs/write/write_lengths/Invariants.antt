@@ -1,6 +1,6 @@
 use Rattle.surf_surfaces.proofs.Common.{take, Ok, zip, edges}
 use Rattle.surf_text.specs.Pages.{Puts}
-use Rattle.surf_geom.specs.Texts.{entries_text}
+use Rattle.surf_geom.proofs.Entries.{entries_text}
 use Rattle.surf_geom.proofs.write.write_lengths.Given as goal
 
 abbrev pub invariant-loop-e : goal.invariant-loop-e
