@@ -17,7 +17,6 @@ pub use Rattle.surf_answers.specs.ShortestCycle.{GivesCycle}
 pub use Rattle.surf_answers.specs.Summaries.{BasisTotals, CycleMeasures, GivesSummary, total_size}
 pub use Rattle.surf_answers.specs.Tells.{Concludes, ConcludesOver, IsTold, Takes, TakesOver, Why, WhyOver}
 pub use Rattle.surf_answers.specs.Tells.{verdict_status}
-pub use Rattle.surf_answers.specs.declared.answered.Answered.{Answered}
 pub use Rattle.surf_base.specs.declared.limits.LimitKind.TheVariants.{BasisVertices, CertificateVertices, Loops}
 pub use Rattle.surf_basis.proofs.First.{first_listed}
 pub use Rattle.surf_basis.specs.Cycles.{AllSeparate, IsFirstCandidate, IsShortestCycle, IsTheBasis, as_loop, as_loops}

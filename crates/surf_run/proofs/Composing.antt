@@ -1,5 +1,6 @@
 -- Steps that functions take, one after another.
-use Rattle.surf_answers.proofs.Common.{◌≡◌, ◌≤◌, ◌∙◌, ℕ, [], Option, Some, None, Result, Ok, Err, inl, inr, refl, sym, ap, subst, arith, err_from_is_err_and, IfSome, IsErrAnd, Cause, due, unread, starved, Outcome, answers, misses, cause_of, Refused, IsTold, Why, Concludes, WhyOver, ConcludesOver, TakesOver, verdict_status, Answered}
+use Rattle.surf_answers.proofs.Common.{◌≡◌, ◌≤◌, ◌∙◌, ℕ, [], Option, Some, None, Result, Ok, Err, inl, inr, refl, sym, ap, subst, arith, err_from_is_err_and, IfSome, IsErrAnd, Cause, due, unread, starved, Outcome, answers, misses, cause_of, Refused, IsTold, Why, Concludes, WhyOver, ConcludesOver, TakesOver, verdict_status}
+use Rattle.surf_answers.specs.declared.answered.Answered.{Answered}
 use Rattle.surf_base.specs.Outside.{Files}
 use Rattle.surf_texts.specs.declared.refusal.Refused.TheVariants.{Read}
 use Rattle.surf_run.specs.Steps.{Ends, stops, goes}
@@ -176,18 +177,18 @@ why_over_so old new holds follows unread (inr missing) = inr (told_so holds (λ 
 why_over_so old new holds follows starved is = tt
 
 -- what is so of the files that are held, each time that they were read
-pub at_once : {held there holds : Option Files} {P Q : Files → Type 0} → held ≡ holds → IfSome held P → there ≡ holds → IfSome there Q →
+pub at_once : {held there holds : Option Files} (P Q : Files → Type 0) → held ≡ holds → IfSome held P → there ≡ holds → IfSome there Q →
     IfSome holds (λ files. P files × Q files)
-at_once {held} {there} {holds} {P} {Q} same p alike q = at holds (subst (λ (h : Option Files). IfSome h P) same p) (subst (λ (h : Option Files). IfSome h Q) alike q)
+at_once {held} {there} {holds} P Q same p alike q = at holds (subst (λ (h : Option Files). IfSome h P) same p) (subst (λ (h : Option Files). IfSome h Q) alike q)
   where
     at : (h : Option Files) → IfSome h P → IfSome h Q → IfSome h (λ files. P files × Q files)
     at None p q = tt
     at (Some files) p q = (p, q)
 
 -- a step that a function takes by steps stops where one of them does
-pub refused : {T B : Type 0} {view : T → B} {holds : Option Files} {old new : ℕ} (step : Files → Result B Outcome → Type 0) (e : Refused) (r : Result T Refused) →
-    IsErrAnd r (λ x. x ≡ e) → ConcludesOver holds old new (λ files o. step files (Err o)) (Err e) → TakesOver holds old new view step r
-refused {T} {B} {view} {holds} {old} {new} step e r is why = handed (TakesOver holds old new view step) e r is why
+pub refused : {B : Type 0} (holds : Option Files) (old new : ℕ) (step : Files → Result B Outcome → Type 0) (e : Refused) (r : Result B Refused) →
+    IsErrAnd r (λ x. x ≡ e) → ConcludesOver holds old new (λ files o. step files (Err o)) (Err e) → TakesOver holds old new (λ (x : B). x) step r
+refused {B} holds old new step e r is why = handed (TakesOver holds old new (λ (x : B). x) step) e r is why
 
 -- .. and so does a last step, on a shelf that holds the same
 pub last_stopped : {held holds : Option Files} {old now : ℕ} {whole rest : Files → Outcome → Type 0} → SoFar holds old now whole rest →

@@ -35,7 +35,7 @@ pub cut_open : {holds there : Option Files} {old mid new : ℕ} (extent : Extent
     (values : List ℕ) → IfSome holds (λ files. HasLengths lengths mesh files (Ok values)) → old ≤ mid → (vertex : ℕ) → HasBase base mesh (Ok vertex) →
     (kind : Kind) → there ≡ holds → IfSome there (λ files. HasKind extent mesh files (Ok kind)) → mid ≤ new → (r : Result OpenMesh Refused) →
     Takes (λ (opened : OpenMesh). opened) (CutsAt kind mesh values vertex) r → TakesOver holds old new (λ (opened : OpenMesh). opened) (CutsOpen extent mesh lengths base) r
-cut_open {holds} extent mesh lengths base few values went later vertex based kind alike told after (Ok opened) cuts = some_so holds (λ files is. record {
+cut_open {holds} {there} {old} {mid} {new} extent mesh lengths base few values went later vertex based kind alike told after (Ok opened) cuts = some_so holds (λ files is. record {
   few = few;
   values = values;
   has_lengths = is.0;
@@ -44,7 +44,7 @@ cut_open {holds} extent mesh lengths base few values went later vertex based kin
   kind = kind;
   has_kind = is.1;
   cuts = cuts;
-}) (at_once refl went alike told)
-cut_open {holds} extent mesh lengths base few values went later vertex based kind alike told after (Err e) why =
-    refused (CutsOpen extent mesh lengths base) e (Err e) refl
+}) (at_once (λ files. HasLengths lengths mesh files (Ok values)) (λ files. HasKind extent mesh files (Ok kind)) refl went alike told)
+cut_open {holds} {there} {old} {mid} {new} extent mesh lengths base few values went later vertex based kind alike told after (Err e) why =
+    refused holds old new (CutsOpen extent mesh lengths base) e (Err e) refl
     (ended (over (past (over (past begun tt few) values refl went later) vertex based) kind alike told after) (Err e) why)

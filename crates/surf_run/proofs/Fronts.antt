@@ -4,7 +4,7 @@ use Rattle.surf_base.specs.Outside.{Files}
 use Rattle.surf_base.specs.declared.limits.LimitKind.{LimitKind}
 use Rattle.surf_off.specs.Off.{OffParts}
 use Rattle.surf_run.specs.Fronts.{IsMeasuredSurface, IsSmallSurface, MeasuresSurface, MeasuresSmall, OnMeasured, OnSmall}
-use Rattle.surf_run.specs.Reading.{HasLengths, HoldsSurface}
+use Rattle.surf_run.specs.Reading.{Reads, HasLengths, HoldsSurface}
 use Rattle.surf_run.specs.Steps.{Ends, stops, goes, AtMost}
 use Rattle.surf_run.proofs.Composing.{SoFar, begun, follows_so, some_so, at_once}
 
@@ -58,7 +58,7 @@ module _ {held there holds : Option Files} (name word : List ℕ) (mesh : Mesh) 
     (has : IfSome there (λ files. HasLengths word mesh files (Ok values))) where
   pub measured_so : IfSome holds (λ files. IsMeasuredSurface name word files mesh values)
   measured_so = some_so holds (λ files is. record { bytes = bytes; reads = is.0; parts = parts; surface = from.1; few = few; has = is.1 })
-      (at_once same from.0 alike has)
+      (at_once (λ files. Reads name files (Ok bytes)) (λ files. HasLengths word mesh files (Ok values)) same from.0 alike has)
 
   pub small_so : (kind : LimitKind) (most : ℕ) → AtMost kind most mesh.vertices (Ok tt) → IfSome holds (λ files. IsSmallSurface kind most name word files mesh values)
   small_so kind most small = some_so holds (λ files is. record { is = is; small = small }) measured_so

@@ -1,5 +1,6 @@
 -- The text of a file, of which the mesh alone goes on.
-use Rattle.surf_answers.proofs.Common.{◌≡◌, ℕ, List, Option, Result, Ok, Err, inl, inr, sym, subst, Mesh, IsSurface, IfOk, IfSome, IsErrAnd, Outcome, Cause, due, unread, starved, cause_of, Refused, Answered, Why, Takes, WhyOver, TakesOver, ConcludesOver}
+use Rattle.surf_answers.proofs.Common.{◌≡◌, ℕ, List, Option, Result, Ok, Err, inl, inr, sym, subst, Mesh, IsSurface, IfOk, IfSome, IsErrAnd, Outcome, Cause, due, unread, starved, cause_of, Refused, Why, Takes, WhyOver, TakesOver, ConcludesOver}
+use Rattle.surf_answers.specs.declared.answered.Answered.{Answered}
 use Rattle.surf_base.specs.Outside.{Files}
 use Rattle.surf_off.specs.Off.{OffParts}
 use Rattle.surf_run.specs.Steps.{Ends, stops, goes}
