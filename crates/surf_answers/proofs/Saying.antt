@@ -43,9 +43,9 @@ module _ (end : Outcome → Type 0) (text : List ℕ) (page : PageState) (is_bla
   -- it was put there, and what the page then holds is the answer
   pub page_answered : (new : PageState) → new ≡ grown page text → (a b : Answered) → a ≡ b → verdict_status b.verdict ≡ 0 → b.text.items ≡ new.bytes →
       length b.text.items ≤ new.most → end (answers (verdict_status a.verdict) a.text.items)
-  page_answered new filled a b same yes is within =
+  page_answered new filled a b same good is within =
       let most : new.most ≡ 1073741824 = ap (λ (p : PageState). p.most) filled ∙ ap (λ (p : PageState). p.most) is_blank in
-      ends_as end a b same (subst (λ (n : ℕ). end (answers n b.text.items)) (sym yes) (ends (answers 0 b.text.items)
+      ends_as end a b same (subst (λ (n : ℕ). end (answers n b.text.items)) (sym good) (ends (answers 0 b.text.items)
       (says_whole text b.text.items (is ∙ ap (λ (p : PageState). p.bytes) filled ∙ ap (λ (p : PageState). p.bytes ++ text) is_blank)
       (subst (λ (n : ℕ). length b.text.items ≤ n) most within))))
 

@@ -28,14 +28,14 @@ pub record CycleMeasures (mesh : Mesh) (lengths : List ℕ) (size : ℕ) : Type 
   pub found : FoundCycle mesh lengths
   pub is : size ≡ walk_length mesh lengths found.first.walk
 
--- What `info` answers of the surface, and then what the loops at vertex 0, the basis and the cycle measure.
+-- What `info` answers of the surface, and then the three measures.
 pub record GivesSummary (mesh : Mesh) (lengths : List ℕ) (outcome : Outcome) : Type 0 where
   pub facts : List ℕ
   pub informs : Informs mesh (answers 0 facts)
-  pub loops : FoundLoops mesh lengths 0
-  pub basis : FoundBasis mesh lengths
-  pub cycle : FoundCycle mesh lengths
-  pub text :
-      outcome
-      ≡ answers 0 (facts ++ measures_text (total_size (loops_at mesh lengths 0 loops.trees)) (total_size basis.basis)
-      (walk_length mesh lengths cycle.first.walk))
+  pub loops : ℕ
+  pub loops_total : LoopsTotal mesh lengths loops
+  pub basis : ℕ
+  pub basis_totals : BasisTotals mesh lengths basis
+  pub cycle : ℕ
+  pub cycle_measures : CycleMeasures mesh lengths cycle
+  pub text : outcome ≡ answers 0 (facts ++ measures_text loops basis cycle)

@@ -45,6 +45,6 @@ cut_open {holds} extent mesh lengths base few values went later vertex based kin
   has_kind = is.1;
   cuts = cuts;
 }) (at_once refl went alike told)
-cut_open extent mesh lengths base few values went later vertex based kind alike told after (Err e) why =
+cut_open {holds} extent mesh lengths base few values went later vertex based kind alike told after (Err e) why =
     refused (CutsOpen extent mesh lengths base) e (Err e) refl
     (ended (over (past (over (past begun tt few) values refl went later) vertex based) kind alike told after) (Err e) why)

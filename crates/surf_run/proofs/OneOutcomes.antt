@@ -1,7 +1,8 @@
 -- What is answered of a surface, a mesh or a certificate is one outcome.
 use Rattle.surf_answers.proofs.Common.{◌≡◌, inl, inr, ℕ, ◌++◌, List, [], Option, refl, sym, ◌∙◌, ap, arith, length, nat_lt, if◌then◌else◌, codes, IsSurface, ArePositive, IsClosed, parity, walk_length, Loop, loops_at, Mesh, characteristic, Outcome, answers, refuses, misses, GivesSummary, refused_by, Informs, Says, beyond, loop_text, basis_text, chosen_cert, basis_cert_of, measured_line, measured_text, texts_same, evidence_text, Evidence, AreClosed, evidence_words, GivesClass, GivesDistances, GivesLoops, GivesBasis, GivesCycle, GivesLoopCert, GivesBasisCert}
 use Rattle.surf_run.proofs.Common.{IsEvidenceText, OffParts, JudgesCert, bases_are_one, chosen_basis_certs_are_one, OnSewnMesh, evidence_in, evidence_cause}
-use Rattle.surf_texts.specs.SummaryTexts.{mesh_counts, kind_text}
+use Rattle.surf_texts.specs.SummaryTexts.{measures_text, mesh_counts, kind_text}
+use Rattle.surf_answers.specs.Summaries.{LoopsTotal, BasisTotals, CycleMeasures, total_size}
 use Rattle.surf_disc.proofs.FaultLaws.{fault_only as disc_fault_only}
 use Rattle.surf_answers.specs.Discs.{JudgesDisc, SaysNoDisc}
 use Rattle.surf_records.specs.declared.cert.Cert.{Cert}
@@ -149,10 +150,30 @@ text_in (answers s t) = t
 text_in (refuses s l) = l
 text_in misses = []
 
+one_loops_total : (mesh : Mesh) (lengths : List ℕ) (n m : ℕ) → IsSurface mesh → ArePositive mesh lengths → LoopsTotal mesh lengths n →
+    LoopsTotal mesh lengths m → n ≡ m
+one_loops_total mesh lengths n m surface long x y =
+    x.is ∙ ap total_size (loops_are_one mesh lengths 0 x.found.trees y.found.trees surface long x.found.chosen y.found.chosen) ∙ sym y.is
+
+one_basis_total : (mesh : Mesh) (lengths : List ℕ) (n m : ℕ) → IsSurface mesh → ArePositive mesh lengths → BasisTotals mesh lengths n →
+    BasisTotals mesh lengths m → n ≡ m
+one_basis_total mesh lengths n m surface long x y =
+    x.is ∙ ap total_size (bases_are_one mesh lengths x.found.trees y.found.trees surface long x.found.chosen y.found.chosen x.found.basis y.found.basis x.found.is_basis y.found.is_basis) ∙ sym y.is
+
+one_cycle_measure : (mesh : Mesh) (lengths : List ℕ) (n m : ℕ) → IsSurface mesh → ArePositive mesh lengths → CycleMeasures mesh lengths n →
+    CycleMeasures mesh lengths m → n ≡ m
+one_cycle_measure mesh lengths n m surface long x y =
+    x.is
+    ∙ ap (λ (c : Loop). walk_length mesh lengths c.walk)
+    (firsts_are_one mesh lengths x.found.trees y.found.trees surface long x.found.chosen y.found.chosen x.found.first y.found.first x.found.rest y.found.rest x.found.is_first y.found.is_first)
+    ∙ sym y.is
+
 pub one_summary : (mesh : Mesh) (lengths : List ℕ) → IsSurface mesh → ArePositive mesh lengths → HasOneOutcome (GivesSummary mesh lengths)
 one_summary mesh lengths surface long o p x y =
     let facts : x.facts ≡ y.facts = ap text_in (one_info mesh (answers 0 x.facts) (answers 0 y.facts) x.informs y.informs) in
-    let loops = loops_are_one mesh lengths 0 x.loops.trees y.loops.trees surface long x.loops.chosen y.loops.chosen in
-    let basis : x.basis.basis ≡ y.basis.basis = bases_are_one mesh lengths x.basis.trees y.basis.trees surface long x.basis.chosen y.basis.chosen x.basis.basis y.basis.basis x.basis.is_basis y.basis.is_basis in
-    let cycle : x.cycle.first ≡ y.cycle.first = firsts_are_one mesh lengths x.cycle.trees y.cycle.trees surface long x.cycle.chosen y.cycle.chosen x.cycle.first y.cycle.first x.cycle.rest y.cycle.rest x.cycle.is_first y.cycle.is_first in
-    x.text ∙ rw (facts, loops, basis, cycle) (sym y.text)
+    x.text
+    ∙ ap (λ (t : List ℕ). answers 0 (t ++ measures_text x.loops x.basis x.cycle)) facts
+    ∙ ap (λ n. answers 0 (y.facts ++ measures_text n x.basis x.cycle)) (one_loops_total mesh lengths x.loops y.loops surface long x.loops_total y.loops_total)
+    ∙ ap (λ n. answers 0 (y.facts ++ measures_text y.loops n x.cycle)) (one_basis_total mesh lengths x.basis y.basis surface long x.basis_totals y.basis_totals)
+    ∙ ap (λ n. answers 0 (y.facts ++ measures_text y.loops y.basis n)) (one_cycle_measure mesh lengths x.cycle y.cycle surface long x.cycle_measures y.cycle_measures)
+    ∙ sym y.text

@@ -8,7 +8,7 @@ gives : (mesh : Mesh) (lengths : List ℕ) (base : ℕ) (t : TreeTables) (n : �
 gives mesh lengths base t n count grown o says = record {
   tree = tree_of t;
   shortest = grown.shortest;
-  says = subst (λ (text : List ℕ). Says text o) (ap (tables_text t) count ∙ tables_are_texts mesh lengths base t grown) says;
+  says = subst (λ (text : List ℕ). Says text o) (ap (λ k. tables_text t k) count ∙ tables_are_texts mesh lengths base t grown) says;
 }
 
 pub returns-in_err-put_distances : goal.returns-in_err-put_distances
