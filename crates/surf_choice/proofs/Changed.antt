@@ -1,8 +1,10 @@
 -- Where the choice changes when others are offered to those kept.
-use Rattle.surf_surfaces.proofs.Common.{◌≡◌, ℕ, zero, suc, ◌+◌, ◌-◌, ◌<◌, ◌≤◌, true, false, List, [], ◌∷◌, ◌++◌, length, get_or, take, drop, All, refl, sym, ap, ◌∙◌, subst, arith, inl, inr, append_assoc, cases_lt, cases_Bool, AllByRecursion, recursion_from_All, All-from_recursion, merge, numbers, is_nothing, Spanned, Decides-is_nothing, in_from_spanned, spanned_from_in, map-append, get_or_default, append-nil, drop_more, at_drop_all, take_more, take-append-drop, take-map, get_or-drop, length-drop, get_or-take, length-take, take_all, greedy_after, spans, not_spans}
+use Rattle.surf_surfaces.proofs.Common.{◌≡◌, ℕ, zero, suc, ◌+◌, ◌-◌, ◌<◌, ◌≤◌, true, false, List, [], ◌∷◌, ◌++◌, length, get_or, take, drop, All, refl, sym, ap, ◌∙◌, subst, arith, inl, inr, append_assoc, cases_lt, cases_Bool, AllByRecursion, recursion_from_All, All-from_recursion, merge, numbers, is_nothing, Bool, Spanned, Decides-is_nothing, in_from_spanned, spanned_from_in, map-append, length-map, get_or_default, append-nil, drop_more, at_drop_all, take_more, take-append-drop, take-map, get_or-drop, length-drop, get_or-take, length-take, take_all, greedy_after, spans, not_spans}
+use Rattle.std.proofs.lemmas.List.{drop-map}
 use Rattle.surf_z2.proofs.Basics.{in_left}
+use Rattle.surf_choice.specs.declared.candidate.Candidate.{Candidate}
 use Rattle.surf_choice.specs.declared.candidate.Signed.{Signed}
-use Rattle.surf_choice.specs.Candidates.{signed_earlier, has_next, independent_of, signatures, kept_after, IsChange, IsRepeated}
+use Rattle.surf_choice.specs.Candidates.{signed_earlier, has_next, independent_of, candidates, signatures, kept_after, IsChange, IsRepeated}
 use Rattle.surf_choice.specs.Echelons.{AreRowsOf}
 use Rattle.surf_choice.proofs.Fronts.{AreFreshAfter, front_spanned}
 use Rattle.surf_choice.proofs.Sifted.{kept_turn, kept_over}
@@ -177,6 +179,20 @@ pub parts_next : (place fresh : ℕ) (kept offered : List Signed) → has_next (
 parts_next place fresh kept offered =
     ap (λ xs. has_next xs (drop fresh offered)) (sym (later_part place kept))
     ∙ ap (has_next (take (length kept - place) (drop place kept))) (sym (later_part fresh offered))
+
+-- so it is by the candidates alone
+pub keys_next : (place fresh : ℕ) (kept offered : List Signed) (keys : List Candidate) (next : Bool) → keys ≡ candidates kept →
+    ((ks : List Signed) → take (length keys - place) (drop place keys) ≡ candidates ks →
+    next ≡ has_next ks (take (length offered - fresh) (drop fresh offered))) →
+    has_next (drop place kept) (drop fresh offered) ≡ next
+keys_next place fresh kept offered keys next are h =
+    let own = λ (c : Signed). c.candidate in
+    let same : take (length keys - place) (drop place keys) ≡ candidates (take (length kept - place) (drop place kept)) =
+    ap (λ xs. take (length xs - place) (drop place xs)) are
+    ∙ ap (λ n. take (n - place) (drop place (candidates kept))) (length-map kept own)
+    ∙ ap (take (length kept - place)) (drop-map own place kept)
+    ∙ take-map own (length kept - place) (drop place kept) in
+    parts_next place fresh kept offered ∙ sym (h (take (length kept - place) (drop place kept)) same)
 
 pub part_small : (P : Signed → Type 0) (n : ℕ) (xs cs : List Signed) → xs ≡ cs → All P cs → All P (take (length xs - n) (drop n xs))
 part_small P n xs cs e h = subst (λ ys. All P (take (length ys - n) (drop n ys))) (sym e)

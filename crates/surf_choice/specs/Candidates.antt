@@ -25,6 +25,9 @@ has_next (c ∷ cs) (d ∷ ds) = signed_earlier c d
 abbrev pub independent_of : List Signed → List Signed
 independent_of cs = greedy numbers is_nothing (λ c. c.signature) cs
 
+abbrev pub candidates : List Signed → List Candidate
+candidates cs = map (λ c. c.candidate) cs
+
 abbrev pub signatures : List Signed → List ℕ
 signatures cs = map (λ c. c.signature) cs
 

@@ -1,11 +1,12 @@
 //! Lists of candidates in order: two merged to one, and what of one is independent of others.
-ghost use Rattle.std.specs.Prelude.{◌≡◌, ◌<◌, ◌≤◌, ◌+◌, ◌^◌, All, MatchOption, length, true, vec_capacity};
+ghost use Rattle.std.specs.Prelude.{◌≡◌, ◌<◌, ◌≤◌, ◌+◌, ◌^◌, List, All, MatchOption, length, true, vec_capacity};
 ghost use Rattle.surf_z2.specs.Order.{merge};
-ghost use Rattle.surf_choice.specs.Candidates.{signed_earlier, has_next, independent_of, signatures};
+ghost use Rattle.surf_choice.specs.Candidates.{signed_earlier, has_next, independent_of, candidates, signatures};
 ghost use Rattle.surf_choice.specs.Candidates.{kept_after, IsChange, IsRepeated};
 ghost use Rattle.surf_choice.specs.Echelons.{AreRowsOf};
+ghost use Rattle.surf_choice.specs.declared.candidate.Signed.{Signed};
 
-use crate::candidate::{Signed, comes_before, copy_of};
+use crate::candidate::{Candidate, Signed, comes_before, copy_of};
 use crate::echelon::Echelon;
 use surf_bits::Bits;
 
@@ -47,6 +48,28 @@ pub(crate) struct Change {
     pub fresh: usize,
 }
 
+// Whether of those kept, by their candidates, and a list in order the first has the next candidate.
+fn is_next(keys: &[Candidate], offered: &[Signed]) -> bool
+    ensures next { (kept : List Signed) → keys.now ≡ candidates kept → result ≡ has_next kept offered.now }
+{
+    if keys.is_empty() {
+        return false;
+    }
+    offered.is_empty() || comes_before(&keys[0], &offered[0].candidate)
+}
+
+// Lists the candidates of those kept, in room that there is.
+pub(crate) fn list_keys(kept: &[Signed], keys: &mut Vec<Candidate>)
+    requires room { length kept.now ≤ vec_capacity keys.old }
+    ensures keys { keys.new.items ≡ candidates kept.now }
+    ensures room { vec_capacity keys.old ≤ vec_capacity keys.new }
+{
+    keys.clear();
+    for signed in kept {
+        keys.push_reserved(signed.candidate);
+    }
+}
+
 // How many slots there are for what was seen.
 const SLOTS: usize = 1024;
 
@@ -78,8 +101,14 @@ fn is_repeated(offered: &[Signed], fresh: usize, earlier: usize) -> bool
 
 // Where the choice from those kept and others in order differs from those kept, if it does. The
 // rows are those of the signatures that are kept. Of many candidates with one signature only the
-// first is asked of the rows, as far as slots tell.
-pub(crate) fn first_change(kept: &[Signed], rows: &Echelon, offered: &[Signed]) -> Option<Change>
+// first is asked of the rows, as far as slots tell. (Keys lie closer together than what is kept.)
+pub(crate) fn first_change(
+    kept: &[Signed],
+    keys: &[Candidate],
+    rows: &Echelon,
+    offered: &[Signed],
+) -> Option<Change>
+    requires keys { keys.now ≡ candidates kept.now }
     requires rows { AreRowsOf rows.now.rows (signatures kept.now) }
     requires small { All (λ s. s.signature < 2 ^ rows.now.width) offered.now }
     ensures change { MatchOption result
@@ -91,7 +120,7 @@ pub(crate) fn first_change(kept: &[Signed], rows: &Echelon, offered: &[Signed]) 
     let mut place = 0;
     let mut fresh = 0;
     while fresh < offered.len() {
-        if goes_first(&kept[place..], &offered[fresh..]) {
+        if is_next(&keys[place..], &offered[fresh..]) {
             place += 1;
         } else {
             let set = offered[fresh].signature.bits();
