@@ -8,6 +8,7 @@ use Rattle.surf_off.specs.Written.{lines_at, opened_text}
 use Rattle.surf_off.proofs.Reread.{AllFaces}
 use Rattle.surf_off.proofs.RereadMesh.{all_faces}
 use Rattle.surf_sew.specs.declared.copies.CopyFault.TheVariants.{CopyCount}
+use Rattle.surf_base.specs.Gives.{◌>>=◌}
 use Rattle.surf_sew.specs.Copies.{counted, copies_in}
 use Rattle.surf_sew.proofs.CutTexts.{cut_again}
 use Rattle.surf_sew.proofs.Rereads.{all_lines}
@@ -32,4 +33,4 @@ copies_named parts origins faces e clean within small good short same small_o sm
     subst (λ (v : ℕ). AllFaces v faces parts.colours) (sym count) (all_faces n faces parts.colours small_o good short clean.colours same) in
     let read = cut_again parts.header lines faces parts.colours e origins (all_lines parts.vertex_lines origins clean.vertex_lines within) all
     (omega (arith, count)) small_f small_e small_o (small_at origins small) in
-    ap (counted n) read ∙ ap (λ (b : Bool). cond b (Ok origins) (Err (CopyCount n))) (eq-eqb n n refl)
+    ap (λ r. r >>= counted n) read ∙ ap (λ (b : Bool). cond b (Ok origins) (Err (CopyCount n))) (eq-eqb n n refl)

@@ -1,7 +1,10 @@
 -- Where the choice changes when others are offered to those kept.
-use Rattle.surf_surfaces.proofs.Common.{◌≡◌, ℕ, zero, suc, ◌+◌, ◌-◌, ◌<◌, ◌≤◌, true, false, List, [], ◌∷◌, ◌++◌, length, get_or, take, drop, All, refl, sym, ap, ◌∙◌, subst, arith, inl, inr, append_assoc, cases_lt, cases_Bool, AllByRecursion, recursion_from_All, All-from_recursion, merge, numbers, is_nothing, Spanned, Decides-is_nothing, in_from_spanned, append-nil, drop_more, at_drop_all, take_more, take-append-drop, take-map, get_or-drop, length-drop, get_or-take, length-take, take_all, greedy_after, spans, not_spans}
+use Rattle.surf_surfaces.proofs.Common.{◌≡◌, ℕ, zero, suc, ◌+◌, ◌-◌, ◌<◌, ◌≤◌, true, false, List, [], ◌∷◌, ◌++◌, length, get_or, take, drop, All, refl, sym, ap, ◌∙◌, subst, arith, inl, inr, append_assoc, cases_lt, cases_Bool, AllByRecursion, recursion_from_All, All-from_recursion, merge, numbers, is_nothing, Bool, Spanned, Decides-is_nothing, in_from_spanned, spanned_from_in, map-append, length-map, get_or_default, append-nil, drop_more, at_drop_all, take_more, take-append-drop, take-map, get_or-drop, length-drop, get_or-take, length-take, take_all, greedy_after, spans, not_spans}
+use Rattle.std.proofs.lemmas.List.{drop-map}
+use Rattle.surf_z2.proofs.Basics.{in_left}
+use Rattle.surf_choice.specs.declared.candidate.Candidate.{Candidate}
 use Rattle.surf_choice.specs.declared.candidate.Signed.{Signed}
-use Rattle.surf_choice.specs.Candidates.{signed_earlier, has_next, independent_of, signatures, kept_after, IsChange}
+use Rattle.surf_choice.specs.Candidates.{signed_earlier, has_next, independent_of, candidates, signatures, kept_after, IsChange, IsRepeated}
 use Rattle.surf_choice.specs.Echelons.{AreRowsOf}
 use Rattle.surf_choice.proofs.Fronts.{AreFreshAfter, front_spanned}
 use Rattle.surf_choice.proofs.Sifted.{kept_turn, kept_over}
@@ -46,9 +49,15 @@ pub record IsPassing (kept offered : List Signed) (place fresh : ℕ) : Type 0 w
   pub fresh_in : fresh ≤ length offered
   pub rest : kept_after (take place kept) (merge signed_earlier (drop place kept) (drop fresh offered))
       ≡ independent_of (merge signed_earlier kept offered)
+  pub sums : (k : ℕ) (d : Signed) → k < fresh → Spanned numbers (signatures (take place kept)) (get_or offered k d).signature
 
 pub pass_begun : (kept offered : List Signed) → IsPassing kept offered 0 0
-pass_begun kept offered = record { place_in = omega arith; fresh_in = omega arith; rest = refl }
+pass_begun kept offered = record {
+  place_in = omega arith;
+  fresh_in = omega arith;
+  rest = refl;
+  sums = λ k d l. absurd (omega (arith, l));
+}
 
 no_loop : Signed
 no_loop = record { candidate = record { length = 0; base = 0; edge = 0 }; from = 0; signature = 0 }
@@ -81,6 +90,12 @@ pass_kept kept offered place fresh p free h =
           ∙ kept_turn (take place kept) (merge signed_earlier (drop (place + 1) kept) (drop fresh offered)) k
           (λ sum. here.0 (in_from_spanned numbers (signatures (take place kept)) k.signature sum)))
           ∙ p.rest;
+      sums = λ j d l.
+          subst (λ xs. Spanned numbers xs (get_or offered j d).signature)
+          (sym (ap signatures front ∙ map-append (λ (c : Signed). c.signature) (take place kept) (k ∷ [])))
+          (spanned_from_in numbers (signatures (take place kept) ++ k.signature ∷ []) (get_or offered j d).signature
+          (in_left numbers (signatures (take place kept)) (k.signature ∷ []) (get_or offered j d).signature
+          (in_from_spanned numbers (signatures (take place kept)) (get_or offered j d).signature (p.sums j d l))));
     }
 
 -- one that was offered is, and is a sum of those before it
@@ -99,7 +114,21 @@ pass_offered kept offered place fresh d p l same h sum =
           ∙ ap (kept_after (take place kept)) given
           ∙ kept_over (take place kept) (merge signed_earlier (drop place kept) (drop (fresh + 1) offered)) d sum)
           ∙ p.rest;
+      sums = λ j e less. elim (cases_lt j fresh) [
+        | inl before ↦ p.sums j e before
+        | inr past ↦
+            let at : j ≡ fresh = omega (arith, less, past) in
+            subst (λ n. Spanned numbers (signatures (take place kept)) (get_or offered n e).signature) (sym at)
+            (subst (λ (x : Signed). Spanned numbers (signatures (take place kept)) x.signature)
+            (same ∙ get_or_default offered fresh d e l) sum)
+      ];
     }
+
+-- it is where it has the signature of one before it
+pub pass_repeated : (kept offered : List Signed) (place fresh : ℕ) (d : Signed) → IsPassing kept offered place fresh →
+    d ≡ get_or offered fresh d → IsRepeated offered fresh → Spanned numbers (signatures (take place kept)) d.signature
+pass_repeated kept offered place fresh d p same (k, less, is) =
+    subst (Spanned numbers (signatures (take place kept))) (is d ∙ sym (ap (λ (x : Signed). x.signature) same)) (p.sums k d less)
 
 -- all that were offered are sums
 pub pass_ended : (kept offered : List Signed) (place fresh : ℕ) → IsPassing kept offered place fresh →
@@ -150,6 +179,20 @@ pub parts_next : (place fresh : ℕ) (kept offered : List Signed) → has_next (
 parts_next place fresh kept offered =
     ap (λ xs. has_next xs (drop fresh offered)) (sym (later_part place kept))
     ∙ ap (has_next (take (length kept - place) (drop place kept))) (sym (later_part fresh offered))
+
+-- so it is by the candidates alone
+pub keys_next : (place fresh : ℕ) (kept offered : List Signed) (keys : List Candidate) (next : Bool) → keys ≡ candidates kept →
+    ((ks : List Signed) → take (length keys - place) (drop place keys) ≡ candidates ks →
+    next ≡ has_next ks (take (length offered - fresh) (drop fresh offered))) →
+    has_next (drop place kept) (drop fresh offered) ≡ next
+keys_next place fresh kept offered keys next are h =
+    let own = λ (c : Signed). c.candidate in
+    let same : take (length keys - place) (drop place keys) ≡ candidates (take (length kept - place) (drop place kept)) =
+    ap (λ xs. take (length xs - place) (drop place xs)) are
+    ∙ ap (λ n. take (n - place) (drop place (candidates kept))) (length-map kept own)
+    ∙ ap (take (length kept - place)) (drop-map own place kept)
+    ∙ take-map own (length kept - place) (drop place kept) in
+    parts_next place fresh kept offered ∙ sym (h (take (length kept - place) (drop place kept)) same)
 
 pub part_small : (P : Signed → Type 0) (n : ℕ) (xs cs : List Signed) → xs ≡ cs → All P cs → All P (take (length xs - n) (drop n xs))
 part_small P n xs cs e h = subst (λ ys. All P (take (length ys - n) (drop n ys))) (sym e)

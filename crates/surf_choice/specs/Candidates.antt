@@ -25,6 +25,9 @@ has_next (c ∷ cs) (d ∷ ds) = signed_earlier c d
 abbrev pub independent_of : List Signed → List Signed
 independent_of cs = greedy numbers is_nothing (λ c. c.signature) cs
 
+abbrev pub candidates : List Signed → List Candidate
+candidates cs = map (λ c. c.candidate) cs
+
 abbrev pub signatures : List Signed → List ℕ
 signatures cs = map (λ c. c.signature) cs
 
@@ -41,6 +44,11 @@ pub record IsChange (kept offered : List Signed) (place fresh : ℕ) : Type 0 wh
   pub free : (d : Signed) → Spanned numbers (signatures (take place kept)) (slice_index_or offered fresh d).signature → ⊥
   pub rest : kept_after (take place kept) (merge signed_earlier (drop place kept) (drop fresh offered))
       ≡ independent_of (merge signed_earlier kept offered)
+
+-- a candidate has the signature of one before it
+abbrev pub IsRepeated : List Signed → ℕ → Type 0
+IsRepeated offered fresh = (k : ℕ) × (k < fresh)
+    × ((d : Signed) → (slice_index_or offered k d).signature ≡ (slice_index_or offered fresh d).signature)
 
 -- how many candidates may be independent, and those that are kept
 pub record Chosen : Type 0 where

@@ -9,7 +9,7 @@ ghost use Rattle.surf_base.specs.declared.limits.TheConstants.{MAX_LOOPS};
 
 use crate::candidate::{Candidate, Signed};
 use crate::echelon::Echelon;
-use crate::merging::{first_change, merge, sift};
+use crate::merging::{first_change, list_keys, merge, sift};
 use std::alloc::Global;
 use std::marker::Model;
 use surf_base::NoMemory;
@@ -20,6 +20,7 @@ use surf_bits::Bits;
 #[derive(Drop)]
 pub struct Choice {
     kept: Vec<Signed>,
+    keys: Vec<Candidate>,
     merged: Vec<Signed>,
     rows: Echelon,
     width: usize,
@@ -28,7 +29,7 @@ pub struct Choice {
 impl Model for Choice {
     ghost use Rattle.surf_base.specs.declared.limits.TheConstants.{MAX_LOOPS};
     ghost use Rattle.std.specs.Prelude.{◌≡◌, ◌≤◌, ◌<◌, ◌^◌, All, length, vec_capacity};
-    ghost use Rattle.surf_choice.specs.Candidates.{Chosen, signatures};
+    ghost use Rattle.surf_choice.specs.Candidates.{Chosen, candidates, signatures};
     ghost use Rattle.surf_choice.specs.Echelons.{AreRowsOf};
 
     ghost Value = { Chosen };
@@ -38,7 +39,8 @@ impl Model for Choice {
     ghost invariant = { λ c. (c.rows.width ≡ c.width) × (length c.kept.items ≤ c.width)
         × (c.width ≤ vec_capacity c.kept) × (c.width ≤ MAX_LOOPS)
         × All (λ s. s.signature < 2 ^ c.width) c.kept.items
-        × AreRowsOf c.rows.rows (signatures c.kept.items) };
+        × AreRowsOf c.rows.rows (signatures c.kept.items)
+        × (c.keys.items ≡ candidates c.kept.items) × (c.width ≤ vec_capacity c.keys) };
 }
 
 impl Choice {
@@ -49,6 +51,7 @@ impl Choice {
     {
         Ok(Choice {
             kept: Vec::with_capacity(alloc, width as usize)?,
+            keys: Vec::with_capacity(alloc, width as usize)?,
             merged: Vec::new(alloc),
             rows: Echelon::make(alloc, width)?,
             width: width as usize,
@@ -76,6 +79,7 @@ impl Choice {
         ensures none { self.new ≡ record self.old { kept = [] } }
     {
         self.kept.clear();
+        self.keys.clear();
         self.rows.truncate(0);
     }
 
@@ -161,7 +165,7 @@ impl Choice {
         }) }
         ensures width { self.new.width ≡ self.old.width }
     {
-        let Some(change) = first_change(&self.kept, &self.rows, offered) else {
+        let Some(change) = first_change(&self.kept, &self.keys, &self.rows, offered) else {
             return Ok(());
         };
         let later = &self.kept[change.place..];
@@ -173,6 +177,7 @@ impl Choice {
         self.rows.truncate(change.place);
         sift(&self.merged, &mut self.rows, &mut self.kept);
         self.rows.law_of_echelon();
+        list_keys(&self.kept, &mut self.keys);
         Ok(())
     }
 }

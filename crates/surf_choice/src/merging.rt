@@ -1,12 +1,14 @@
 //! Lists of candidates in order: two merged to one, and what of one is independent of others.
-ghost use Rattle.std.specs.Prelude.{◌≡◌, ◌<◌, ◌≤◌, ◌+◌, ◌^◌, All, MatchOption, length, vec_capacity};
+ghost use Rattle.std.specs.Prelude.{◌≡◌, ◌<◌, ◌≤◌, ◌+◌, ◌^◌, List, All, MatchOption, length, true, vec_capacity};
 ghost use Rattle.surf_z2.specs.Order.{merge};
-ghost use Rattle.surf_choice.specs.Candidates.{signed_earlier, has_next, independent_of, signatures};
-ghost use Rattle.surf_choice.specs.Candidates.{kept_after, IsChange};
+ghost use Rattle.surf_choice.specs.Candidates.{signed_earlier, has_next, independent_of, candidates, signatures};
+ghost use Rattle.surf_choice.specs.Candidates.{kept_after, IsChange, IsRepeated};
 ghost use Rattle.surf_choice.specs.Echelons.{AreRowsOf};
+ghost use Rattle.surf_choice.specs.declared.candidate.Signed.{Signed};
 
-use crate::candidate::{Signed, comes_before, copy_of};
+use crate::candidate::{Candidate, Signed, comes_before, copy_of};
 use crate::echelon::Echelon;
+use surf_bits::Bits;
 
 // Whether the first of two lists in order has the next candidate.
 fn goes_first(first: &[Signed], second: &[Signed]) -> bool
@@ -46,9 +48,67 @@ pub(crate) struct Change {
     pub fresh: usize,
 }
 
+// Whether of those kept, by their candidates, and a list in order the first has the next candidate.
+fn is_next(keys: &[Candidate], offered: &[Signed]) -> bool
+    ensures next { (kept : List Signed) → keys.now ≡ candidates kept → result ≡ has_next kept offered.now }
+{
+    if keys.is_empty() {
+        return false;
+    }
+    offered.is_empty() || comes_before(&keys[0], &offered[0].candidate)
+}
+
+// Lists the candidates of those kept, in room that there is.
+pub(crate) fn list_keys(kept: &[Signed], keys: &mut Vec<Candidate>)
+    requires room { length kept.now ≤ vec_capacity keys.old }
+    ensures keys { keys.new.items ≡ candidates kept.now }
+    ensures room { vec_capacity keys.old ≤ vec_capacity keys.new }
+{
+    keys.clear();
+    for signed in kept {
+        keys.push_reserved(signed.candidate);
+    }
+}
+
+// How many slots there are for what was seen.
+const SLOTS: usize = 1024;
+
+// A slot for a set, the same for sets that are the same.
+fn slot_of(set: &Bits<'_>) -> usize
+    requires small { set.now < 2 ^ 1024 }
+    ensures slot { result < 1024 }
+{
+    let mut words = [0u64; 16];
+    set.add_to(&mut words);
+    let mut hash = 0u64;
+    for word in words {
+        hash = (hash.rotate_left(23) ^ word).wrapping_mul(0x9e37_79b9_7f4a_7c15);
+    }
+    (hash >> 32) as usize % SLOTS
+}
+
+// Whether a candidate has the signature of an earlier one.
+fn is_repeated(offered: &[Signed], fresh: usize, earlier: usize) -> bool
+    requires fresh { fresh < length offered.now }
+    ensures repeated { result ≡ true → IsRepeated offered.now fresh }
+{
+    earlier < fresh
+        && offered[earlier]
+            .signature
+            .bits()
+            .is_same(&offered[fresh].signature.bits())
+}
+
 // Where the choice from those kept and others in order differs from those kept, if it does. The
-// rows are those of the signatures that are kept.
-pub(crate) fn first_change(kept: &[Signed], rows: &Echelon, offered: &[Signed]) -> Option<Change>
+// rows are those of the signatures that are kept. Of many candidates with one signature only the
+// first is asked of the rows, as far as slots tell. (Keys lie closer together than what is kept.)
+pub(crate) fn first_change(
+    kept: &[Signed],
+    keys: &[Candidate],
+    rows: &Echelon,
+    offered: &[Signed],
+) -> Option<Change>
+    requires keys { keys.now ≡ candidates kept.now }
     requires rows { AreRowsOf rows.now.rows (signatures kept.now) }
     requires small { All (λ s. s.signature < 2 ^ rows.now.width) offered.now }
     ensures change { MatchOption result
@@ -56,15 +116,22 @@ pub(crate) fn first_change(kept: &[Signed], rows: &Echelon, offered: &[Signed]) 
         (λ c. IsChange kept.now offered.now c.place c.fresh) }
 {
     rows.law_of_echelon();
+    let mut seen = [usize::MAX; SLOTS];
     let mut place = 0;
     let mut fresh = 0;
     while fresh < offered.len() {
-        if goes_first(&kept[place..], &offered[fresh..]) {
+        if is_next(&keys[place..], &offered[fresh..]) {
             place += 1;
-        } else if rows.spans(place, &offered[fresh].signature.bits()) {
-            fresh += 1;
         } else {
-            return Some(Change { place, fresh });
+            let set = offered[fresh].signature.bits();
+            let slot = slot_of(&set);
+            if !is_repeated(offered, fresh, seen[slot]) {
+                if !rows.spans(place, &set) {
+                    return Some(Change { place, fresh });
+                }
+                seen[slot] = fresh;
+            }
+            fresh += 1;
         }
     }
     None

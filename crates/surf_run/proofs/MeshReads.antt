@@ -1,14 +1,18 @@
 -- What is read of the text of a mesh: clean vertex lines and colours, one for each vertex and each face, no longer than
 -- the text, and few sides.
 use Rattle.surf_surfaces.proofs.Common.{◌≡◌, ◌≤◌, ◌+◌, ℕ, zero, suc, Bool, true, false, List, [], ◌∷◌, length, take, drop, Option, Some, None, Result, Ok, Err, refl, sym, ap, ◌∙◌, subst, arith, inl, inr, nat_lt, nat_le, if◌then◌else◌, cases_Bool, cases_lt, lt-ltb, le-ltb, length-drop, sum_by-cons, Mesh, side_count, face_count, sum_by, slice_split, onto_first, position_or_len}
+use Rattle.std.specs.Prelude.{ok_or, option_and_then, slice_get}
 use Rattle.std.proofs.lemmas.List.Splits.{slice_split-cons_yes, slice_split-cons_no}
 use Rattle.surf_text.specs.Text.{TextLine, is_blank, is_line_end, uncommented, trimmed_front, before_some, trimmed_back, trimmed, behind_word, behind_words, rest_after, tokens_of, onto_lines, numbered_from, lines_of, whole}
 use Rattle.surf_off.specs.Clean.{IsOffParts}
-use Rattle.surf_off.specs.Off.{Head, head_with, head_if, head_on, head_of, counts_of, with_line, vertices_at, size_of, few_sides, corner_read, corners_at, first_repeat, distinct, Face, face_of, FaceLines, with_face, faces_at, OffParts, ended, off_in, off_of}
+use Rattle.surf_off.specs.Off.{Head, head_with, head_of, counts_of, vertices_at, size_of, few_sides, corner_read, corners_at, first_repeat, distinct, Face, face_of, FaceLines, faces_at, OffParts, ended, off_in, off_of}
 use Rattle.surf_off.specs.Keywords.{header_of}
+use Rattle.surf_off.specs.Gives.{with_line}
 use Rattle.surf_off.specs.declared.fault.OffFault.{OffFault}
+use Rattle.surf_off.specs.declared.fault.OffFault.TheVariants.{Header as NoHeader}
 use Rattle.surf_off.specs.declared.header.Header.{Header}
 use Rattle.surf_off.proofs.CleanParts.{parts_clean}
+use Rattle.surf_off.proofs.FaceLines.{with_face}
 use Rattle.surf_run.proofs.TextLaws.{Holds, then_holds, anything}
 
 -- ---- how long pieces of a text are
@@ -133,16 +137,6 @@ with_short header n (w ∷ ws) lines = omega arith
 with_short header n [] [] = tt
 with_short header n [] (line ∷ lines) = omega arith
 
-if_short : (found : Option Header) (n : ℕ) (words : List (List ℕ)) (lines : List TextLine) →
-    Holds (LinesWithin (bytes_in lines)) (head_if found n words lines)
-if_short None n words lines = tt
-if_short (Some header) n words lines = with_short header n words lines
-
-on_short : (n : ℕ) (words : List (List ℕ)) (lines : List TextLine) →
-    Holds (LinesWithin (bytes_in lines)) (head_on n words lines)
-on_short n [] lines = tt
-on_short n (w ∷ ws) lines = if_short (header_of w) n ws lines
-
 holds_more : {A : Type 0} (P Q : A → Type 0) (r : Result A OffFault) → ((x : A) → P x → Q x) → Holds P r → Holds Q r
 holds_more P Q (Ok x) f is = f x is
 holds_more P Q (Err e) f is = tt
@@ -151,9 +145,12 @@ head_short : (lines : List TextLine) → Holds (LinesWithin (bytes_in lines)) (h
 unfolding head_of
 head_short [] = tt
 head_short (line ∷ lines) =
-    holds_more (LinesWithin (bytes_in lines)) (LinesWithin (length line.bytes + bytes_in lines))
-    (head_on line.number (tokens_of line.bytes) lines)
-    (λ head is. omega (arith, is)) (on_short line.number (tokens_of line.bytes) lines)
+    let words = tokens_of line.bytes in
+    let header = ok_or (option_and_then header_of (slice_get words 0)) (NoHeader line.number) in
+    then_holds (λ h. Unit {0}) (LinesWithin (length line.bytes + bytes_in lines)) header _ (anything header)
+    (λ h _. holds_more (LinesWithin (bytes_in lines)) (LinesWithin (length line.bytes + bytes_in lines))
+    (head_with h line.number (drop 1 words) lines) (λ head is. omega (arith, is))
+    (with_short h line.number (drop 1 words) lines))
 
 -- ---- vertices
 

@@ -6,7 +6,8 @@ use Rattle.surf_base.specs.declared.limits.LimitKind.TheVariants.{Text, Loops}
 use Rattle.surf_disc.proofs.TableLaws.{edges_within}
 use Rattle.surf_off.specs.Off.{OffParts, off_of, off_without_limits}
 use Rattle.surf_off.specs.Keywords.{keyword}
-use Rattle.surf_off.specs.Written.{head_text, lines_text, spaced_text, colour_text, face_text, faces_text, mesh_text}
+use Rattle.surf_text.specs.Numbers.{numbers_text}
+use Rattle.surf_off.specs.Written.{head_text, lines_text, colour_text, face_text, faces_text, mesh_text}
 use Rattle.surf_off.specs.declared.header.Header.{Header}
 use Rattle.surf_off.specs.declared.header.Header.TheVariants.{Off, Coff, Noff, Cnoff, Stoff, Stcoff, Stnoff, Stcnoff}
 use Rattle.surf_sew.specs.Copies.{copies_in}
@@ -74,10 +75,10 @@ lines_short (line ∷ lines) =
     let rest = lines_short lines in
     omega (arith, whole, here, more, rest)
 
-numbers_short : (ns : List ℕ) → AllByRecursion (λ n. n < 1000000) ns → length (spaced_text ns) ≤ 8 * length ns
+numbers_short : (ns : List ℕ) → AllByRecursion (λ n. n < 1000000) ns → length (numbers_text ns) ≤ 8 * length ns
 numbers_short [] all = omega arith
 numbers_short (n ∷ ns) all =
-    let whole = length-append (codes " " ++ decimal n) (spaced_text ns) in
+    let whole = length-append (codes " " ++ decimal n) (numbers_text ns) in
     let front = length-append (codes " ") (decimal n) in
     let below = all.0 in
     let here = count_short n (omega (arith, below)) in
@@ -95,7 +96,7 @@ IsSmallFace face = AllByRecursion (λ n. n < 1000000) face × (length face ≤ 6
 face_short : (face colour : List ℕ) → IsSmallFace face →
     length (face_text face colour) ≤ 9 + 8 * length face + length colour
 face_short face colour small =
-    let line = length_of_four (decimal (length face)) (spaced_text face) (colour_text colour) (codes "\n") in
+    let line = length_of_four (decimal (length face)) (numbers_text face) (colour_text colour) (codes "\n") in
     let size = count_short (length face) small.1 in
     let numbers = numbers_short face small.0 in
     let last = colour_short colour in
@@ -130,7 +131,7 @@ small_faces v (face ∷ faces) few sides all =
 -- what is written of a mesh that was read isn't too long an answer
 mesh_text_short : (bytes : List ℕ) (read : OffParts × Mesh) → length bytes ≤ 268435456 → off_of bytes ≡ Ok read →
     IsSurface read.1 →
-    length (mesh_text read.0.header read.0.vertex_lines read.1.faces read.0.colours (edge_count read.1)) ≤ 1073741824
+    length (mesh_text read.0 read.1.faces (edge_count read.1)) ≤ 1073741824
 mesh_text_short bytes read within is surface =
     let few = mesh_texts_are_few bytes read is in
     let so = mesh_texts_are_read bytes read is in

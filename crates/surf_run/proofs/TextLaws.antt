@@ -1,9 +1,13 @@
 -- The mesh of a text has at most a million vertices and two million faces.
-use Rattle.surf_surfaces.proofs.Common.{◌≡◌, ◌≤◌, ℕ, zero, suc, ◌+◌, Bool, true, false, List, [], ◌∷◌, length, Option, Some, None, Result, Ok, Err, refl, sym, ap, subst, inl, inr, nat_lt, cases_lt, lt-ltb, le-ltb, Mesh, face_count}
-use Rattle.surf_text.specs.Text.{TextLine, lines_of, whole}
+use Rattle.surf_surfaces.proofs.Common.{◌≡◌, ◌≤◌, ℕ, zero, suc, ◌+◌, Bool, true, false, List, [], ◌∷◌, length, Result, Ok, Err, refl, sym, ap, subst, inl, inr, nat_lt, if◌then◌else◌, cases_lt, lt-ltb, le-ltb, Mesh, face_count}
+use Rattle.std.specs.Prelude.{ok_or}
+use Rattle.surf_base.specs.declared.limits.LimitKind.TheVariants.{Vertices, Faces}
+use Rattle.surf_text.specs.Text.{TextLine, lines_of}
 use Rattle.surf_base.specs.Gives.{◌>>=◌}
-use Rattle.surf_off.specs.Off.{OffParts, FaceLines, Face, head_of, within_limits, both, counts_of, vertices_at, face_of, with_face, faces_at, ended, off_in, off_of}
+use Rattle.surf_off.specs.Off.{OffParts, FaceLines, Face, head_of, number_at, counts_of, vertices_at, face_of, faces_at, ended, off_in, off_of}
 use Rattle.surf_off.specs.declared.fault.OffFault.{OffFault}
+use Rattle.surf_off.specs.declared.fault.OffFault.TheVariants.{Counts, Limit}
+use Rattle.surf_off.proofs.FaceLines.{with_face}
 
 -- what is read, if anything is, is so
 abbrev pub Holds : {A : Type 0} → (A → Type 0) → Result A OffFault → Type 0
@@ -22,7 +26,11 @@ anything (Err e) = tt
 abbrev pub AreFew : ℕ × ℕ → Type 0
 AreFew counts = (counts.0 ≤ 1000000) × (counts.1 ≤ 2000000)
 
-limited_few : (n v f : ℕ) → Holds AreFew (within_limits true n v f)
+abbrev within_limits : ℕ → ℕ → ℕ → Result (ℕ × ℕ) OffFault
+within_limits n v f =
+    if nat_lt 1000000 v then Err (Limit n Vertices) else (if nat_lt 2000000 f then Err (Limit n Faces) else Ok (v, f))
+
+limited_few : (n v f : ℕ) → Holds AreFew (within_limits n v f)
 limited_few n v f = elim (cases_lt 1000000 v) [
   | inl many ↦ let t : nat_lt 1000000 v ≡ true = lt-ltb _ _ many in rw t tt
   | inr few ↦ let t : nat_lt 1000000 v ≡ false = le-ltb _ _ few in
@@ -32,16 +40,13 @@ limited_few n v f = elim (cases_lt 1000000 v) [
       ]
 ]
 
-both_few : (n : ℕ) (v f : Option ℕ) → Holds AreFew (both true n v f)
-both_few n (Some v) (Some f) = limited_few n v f
-both_few n (Some v) None = tt
-both_few n None f = tt
-
 counts_few : (n : ℕ) (words : List (List ℕ)) → Holds AreFew (counts_of true n words)
 unfolding counts_of
-counts_few n [] = tt
-counts_few n (v ∷ []) = tt
-counts_few n (v ∷ f ∷ more) = both_few n (whole v) (whole f)
+counts_few n words =
+    let first = ok_or (number_at words 0) (Counts n) in
+    let second = ok_or (number_at words 1) (Counts n) in
+    then_holds (λ v. Unit {0}) AreFew first _ (anything first)
+    (λ v _. then_holds (λ f. Unit {0}) AreFew second _ (anything second) (λ f _. limited_few n v f))
 
 -- so many faces as were asked for
 one_more : (f : ℕ) (face : Face) (r : Result FaceLines OffFault) → Holds (λ x. length x.faces ≡ f) r → Holds (λ x. length x.faces ≡ suc f) (with_face face r)

@@ -4,7 +4,8 @@ use Rattle.surf_text.specs.Text.{words_of, whole}
 use Rattle.surf_text.specs.Walks.{has_some}
 use Rattle.surf_sew.specs.declared.copies.CopyFault.{CopyFault}
 use Rattle.surf_sew.specs.declared.copies.CopyFault.TheVariants.{CopyForm}
-use Rattle.surf_sew.specs.Copies.{word_lines_from, is_copy, copies_among, origin_at, origin_of, with_origin, origins_from}
+use Rattle.surf_base.specs.Gives.{◌>>=◌}
+use Rattle.surf_sew.specs.Copies.{word_lines_from, is_copy, copies_among, origin_at, origin_of, origins_from}
 
 -- origins that were read, in front of those to come
 abbrev pub with_origins : List ℕ → Result (List ℕ) CopyFault → Result (List ℕ) CopyFault
@@ -15,9 +16,9 @@ pub with_none : (read : Result (List ℕ) CopyFault) → with_origins [] read �
 with_none (Ok origins) = refl
 with_none (Err fault) = refl
 
-one_more : (front : List ℕ) (line v : ℕ) (read : Result (List ℕ) CopyFault) → with_origins front (with_origin line (Some v) read) ≡ with_origins (front ++ v ∷ []) read
-one_more front line v (Ok origins) = ap (λ (os : List ℕ). Ok os) (sym (append_assoc front (v ∷ []) origins))
-one_more front line v (Err fault) = refl
+one_more : (front : List ℕ) (v : ℕ) (read : Result (List ℕ) CopyFault) → with_origins front (read >>= λ later. Ok (v ∷ later)) ≡ with_origins (front ++ v ∷ []) read
+one_more front v (Ok origins) = ap (λ (os : List ℕ). Ok os) (sym (append_assoc front (v ∷ []) origins))
+one_more front v (Err fault) = refl
 
 module _ (n : ℕ) (front line : List ℕ) (lines : List (List ℕ)) where
   pub other_line : is_copy (words_of line) ≡ false → with_origins front (origins_from (length front) (copies_among (word_lines_from n (line ∷ lines)))) ≡ with_origins front (origins_from (length front) (copies_among (word_lines_from (n + 1) lines)))
@@ -25,7 +26,7 @@ module _ (n : ℕ) (front line : List ℕ) (lines : List (List ℕ)) where
 
   pub copy_line : (v : ℕ) → is_copy (words_of line) ≡ true → origin_of (length front) (words_of line) ≡ Some v → with_origins front (origins_from (length front) (copies_among (word_lines_from n (line ∷ lines)))) ≡ with_origins (front ++ v ∷ []) (origins_from (length front + 1) (copies_among (word_lines_from (n + 1) lines)))
   unfolding origins_from
-  copy_line v copy origin = rw (copy, origin) (one_more front n v (origins_from (length front + 1) (copies_among (word_lines_from (n + 1) lines))))
+  copy_line v copy origin = rw (copy, origin) (one_more front v (origins_from (length front + 1) (copies_among (word_lines_from (n + 1) lines))))
 
   pub bad_line : is_copy (words_of line) ≡ true → origin_of (length front) (words_of line) ≡ None → with_origins front (origins_from (length front) (copies_among (word_lines_from n (line ∷ lines)))) ≡ Err (CopyForm n)
   unfolding origins_from

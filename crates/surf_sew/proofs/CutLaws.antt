@@ -15,13 +15,14 @@ use Rattle.surf_off.proofs.Reread.{AllFaces}
 use Rattle.surf_off.proofs.RereadMesh.{all_faces, short_faces, opened_again}
 use Rattle.surf_sew.specs.declared.copies.CopyFault.TheVariants.{CopyCount}
 use Rattle.surf_sew.specs.declared.fault.SewFault.{SewFault}
+use Rattle.surf_base.specs.Gives.{◌>>=◌}
 use Rattle.surf_sew.specs.Copies.{counted, copies_in}
-use Rattle.surf_sew.specs.Sewing.{first_copy, first_like, first_copies, different, HaveCopies, line_fault, sewn_face, sewn_faces, repeat_or, repeat_from, unless, sewn_mesh, sewn_of}
+use Rattle.surf_sew.specs.Sewing.{first_copy, first_like, first_copies, different, HaveCopies, line_fault, sewn_face, sewn_faces, repeat_from, unless, sewn_mesh, sewn_of}
 use Rattle.surf_sew.specs.Texts.{sewn_lines, sewn_text}
 use Rattle.surf_sew.specs.Laws.{WasCut, opened, opened_parts, text_cut, OpenedAreReread, CopiesAreReread, OpenedAreSewn, LinesAreSewn, SewnAreReread}
 use Rattle.surf_sew.proofs.Gaps.{among_copy, copy_origin, different_few, no_more, no_gap}
 use Rattle.surf_sew.proofs.Firsts.{like_few}
-use Rattle.surf_sew.proofs.Faults.{no_line, sewn_sides, mesh_is}
+use Rattle.surf_sew.proofs.Faults.{no_line, sewn_sides, mesh_is, repeat_or}
 use Rattle.surf_sew.proofs.Rereads.{lines_count, all_lines, sewn_again}
 use Rattle.surf_sew.proofs.CutTexts.{cut_again}
 
@@ -153,7 +154,7 @@ module _ (parts : OffParts) (mesh : Mesh) (origins : List ℕ) (faces : List (Li
       let count : length lines ≡ n = length-map origins _ in
       let all : AllFaces (length lines) faces parts.colours = subst (λ (v : ℕ). AllFaces v faces parts.colours) (sym count) (all_faces n faces parts.colours (omega (arith, few_copies)) good short cut.clean.colours same_colours) in
       let read = cut_again parts.header lines faces parts.colours (edge_count (opened origins faces)) origins (all_lines parts.vertex_lines origins cut.clean.vertex_lines within) all (omega (arith, count, few_copies)) (omega (arith, few_faces_cut)) (omega (arith, few_edges)) (omega (arith, few_copies)) small_origin in
-      ap (counted n) read ∙ ap (λ (b : Bool). cond b (Ok origins) (Err (CopyCount n))) (eq-eqb n n refl)
+      ap (λ r. r >>= counted n) read ∙ ap (λ (b : Bool). cond b (Ok origins) (Err (CopyCount n))) (eq-eqb n n refl)
 
   clean_copies : IsOffParts (opened_parts parts origins)
   clean_copies = record {
@@ -185,4 +186,4 @@ opened_are_sewn parts mesh origins faces cut = (cut_sewn parts mesh origins face
 pub lines_are_sewn : LinesAreSewn
 lines_are_sewn parts mesh origins faces cut =
     let same = cut_lines parts mesh origins faces cut in
-    (same, ap (λ (ls : List (List ℕ)). mesh_text parts.header ls mesh.faces parts.colours (edge_count mesh)) same)
+    (same, ap (λ (ls : List (List ℕ)). mesh_text (record parts { vertex_lines = ls }) mesh.faces (edge_count mesh)) same)

@@ -64,7 +64,7 @@ faces_quiet v (f ∷ fs) (c ∷ cs) good =
     let text : number_line (length f) f c ++ codes "\n" ≡ face_text f c = simp append_assoc in
     both_quiet (face_text f c) (faces_text (zip fs cs)) (quiet_as (number_line (length f) f c ++ codes "\n") (face_text f c) text (line_quiet (number_line (length f) f c) clean.one_line clean.uncommented)) (faces_quiet v fs cs good.1)
 
-mesh_quiet : (h : Header) (lines faces colours : List (List ℕ)) (e : ℕ) → AllLines lines → AllFaces (length lines) faces colours → length lines < 2 ^ 64 → length faces < 2 ^ 64 → e < 2 ^ 64 → Quiet (mesh_text h lines faces colours e)
+mesh_quiet : (h : Header) (lines faces colours : List (List ℕ)) (e : ℕ) → AllLines lines → AllFaces (length lines) faces colours → length lines < 2 ^ 64 → length faces < 2 ^ 64 → e < 2 ^ 64 → Quiet (mesh_text (record { header = h; vertex_lines = lines; colours = colours }) faces e)
 mesh_quiet h lines faces colours e good all small_v small_f small_e =
     both_quiet (head_text h (length lines) (length faces) e) (lines_text lines ++ faces_text (zip faces colours)) (head_quiet h (length lines) (length faces) e small_v small_f small_e) (both_quiet (lines_text lines) (faces_text (zip faces colours)) (lines_quiet lines good) (faces_quiet (length lines) faces colours all))
 
@@ -86,7 +86,7 @@ all_origins origins =
     (λ k lt. get_or-map-range_with_len (slice_index origins) 0 n k k 0 (omega (arith, length-map-range_with_len (slice_index origins) 0 n)) (omega arith))
 
 pub cut_again : (h : Header) (lines faces colours : List (List ℕ)) (e : ℕ) (origins : List ℕ) → AllLines lines → AllFaces (length lines) faces colours → length lines < 2 ^ 64 → length faces < 2 ^ 64 → e < 2 ^ 64 → length origins < 2 ^ 64 → ((k : ℕ) → slice_index origins k < 2 ^ 32)
-    → origins_from 0 (copies_from 1 (mesh_text h lines faces colours e ++ copies_text origins (range_with_len 0 (length origins)))) ≡ Ok origins
+    → origins_from 0 (copies_from 1 (mesh_text (record { header = h; vertex_lines = lines; colours = colours }) faces e ++ copies_text origins (range_with_len 0 (length origins)))) ≡ Ok origins
 cut_again h lines faces colours e origins good all small_v small_f small_e few small =
     let before = mesh_quiet h lines faces colours e good all small_v small_f small_e 1 (copies_text origins (range_with_len 0 (length origins))) in
     ap (origins_from 0) before.1 ∙ copies_again origins 0 (length origins) before.0 (omega arith) small ∙ ap (λ (os : List ℕ). Ok os) (all_origins origins)

@@ -1,11 +1,13 @@
 -- The first fault of copies and their origins.
 use Rattle.surf_surfaces.proofs.Common.{◌≡◌, ◌≢◌, ◌<◌, ◌≤◌, ◌+◌, ℕ, Bool, true, false, not, List, [], ◌∷◌, length, get_or, drop, Option, Some, None, refl, sym, ◌∙◌, ap, arith, slice_index, AllPairs, option_map, sum_by-cons, Mesh, IsFace, length-map, get_or-map, at_drop_more, at_drop_all}
 use Rattle.std.specs.List.{All, sum_by}
+use Rattle.std.specs.Option.{option_or}
 use Rattle.std.proofs.lemmas.List.Elements.{All-map}
 use Rattle.surf_off.specs.Off.{first_repeat}
 use Rattle.surf_off.proofs.FaceRows.{other_default}
+use Rattle.surf_sew.specs.declared.fault.SewFault.{SewFault}
 use Rattle.surf_sew.specs.declared.fault.SewFault.TheVariants.{Line, FaceRepeat}
-use Rattle.surf_sew.specs.Sewing.{same_line, first_like, line_fault, sewn_face, sewn_faces, repeat_or, repeat_from}
+use Rattle.surf_sew.specs.Sewing.{same_line, first_like, line_fault, sewn_face, sewn_faces, repeat_from}
 use Rattle.surf_sew.proofs.Gaps.{find_range, find_no_range}
 
 -- whether the vertex line of a copy differs from that of the least copy with its origin
@@ -43,6 +45,10 @@ sewn_sides origins (face ∷ faces) =
     let a = sum_by-cons length (sewn_face origins face) (sewn_faces origins faces) in
     let b = sum_by-cons length face faces in
     omega (arith, a, b, later, length-map face (slice_index origins))
+
+-- a repeated corner of a face, or the fault of a later one
+abbrev pub repeat_or : ℕ → Option ℕ → Option SewFault → Option SewFault
+repeat_or f o later = option_or (option_map (FaceRepeat f) o) later
 
 module _ (faces : List (List ℕ)) (f : ℕ) (so_far : repeat_from f (drop f faces) ≡ repeat_from 0 faces) where
   step : f < length faces → repeat_from 0 faces ≡ repeat_or f (first_repeat [] (get_or faces f [])) (repeat_from (f + 1) (drop (f + 1) faces))

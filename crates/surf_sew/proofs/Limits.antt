@@ -1,9 +1,13 @@
 -- A text within the limits is read the same with them and without.
-use Rattle.surf_surfaces.proofs.Common.{◌≡◌, ◌≤◌, ◌+◌, ℕ, zero, suc, Bool, true, false, List, [], ◌∷◌, length, take, drop, Option, Some, None, Result, Ok, Err, refl, sym, ◌∙◌, ap, arith, inl, inr, nat_le, ◌&&◌, sum_by, cases_Bool, le-ltb, leb-true, and_parts, length-take-le, sum_by-cons, Mesh}
+use Rattle.surf_surfaces.proofs.Common.{◌≡◌, ◌≤◌, ◌+◌, ℕ, zero, suc, Bool, true, false, List, [], ◌∷◌, length, take, drop, Option, Some, None, Result, Ok, Err, refl, sym, ◌∙◌, ap, arith, inl, inr, nat_le, nat_lt, if◌then◌else◌, ◌&&◌, sum_by, cases_Bool, le-ltb, leb-true, and_parts, length-take-le, sum_by-cons, Mesh}
+use Rattle.std.specs.Prelude.{ok_or}
 use Rattle.surf_text.specs.Text.{TextLine, tokens_of, whole, lines_of, rest_after}
+use Rattle.surf_base.specs.declared.limits.LimitKind.TheVariants.{Vertices, Faces}
 use Rattle.surf_off.specs.declared.fault.OffFault.{OffFault}
+use Rattle.surf_off.specs.declared.fault.OffFault.TheVariants.{Counts, FaceSize, Limit}
 use Rattle.surf_base.specs.Gives.{◌>>=◌}
-use Rattle.surf_off.specs.Off.{Head, head_of, both, counts_of, vertices_at, sized, size_of, few_sides, corner_read, corners_at, first_repeat, distinct, Face, face_of, FaceLines, with_face, faces_at, OffParts, ended, off_in}
+use Rattle.surf_off.specs.Off.{Head, head_of, number_at, counts_of, vertices_at, size_of, few_sides, corner_read, corners_at, first_repeat, distinct, Face, face_of, FaceLines, faces_at, OffParts, ended, off_in}
+use Rattle.surf_off.proofs.FaceLines.{with_face}
 use Rattle.surf_sew.specs.Laws.{LimitsAreKept}
 
 -- What was bound was read.
@@ -20,11 +24,14 @@ was_read x = Ok x
 ok_same : {A : Type 0} → (x y : A) → was_read x ≡ was_read y → x ≡ y
 ok_same x y is = cc
 
+abbrev both : Bool → ℕ → Option ℕ → Option ℕ → Result (ℕ × ℕ) OffFault
+both limited n x y = ok_or x (Counts n) >>= λ v. ok_or y (Counts n) >>= λ f.
+    if limited && nat_lt 1000000 v then Err (Limit n Vertices)
+    else (if limited && nat_lt 2000000 f then Err (Limit n Faces) else Ok (v, f))
+
 counts_kept : (n v f : ℕ) (words : List (List ℕ)) → counts_of false n words ≡ Ok (v, f) → v ≤ 1000000 → f ≤ 2000000 → counts_of true n words ≡ Ok (v, f)
 unfolding counts_of
-counts_kept n v f [] is few_v few_f = absurd cc
-counts_kept n v f (a ∷ []) is few_v few_f = absurd cc
-counts_kept n v f (a ∷ b ∷ more) is few_v few_f = at (whole a) (whole b) is
+counts_kept n v f words is few_v few_f = at (number_at words 0) (number_at words 1) is
   where
     at : (x y : Option ℕ) → both false n x y ≡ Ok (v, f) → both true n x y ≡ Ok (v, f)
     at (Some x) (Some y) is =
@@ -44,6 +51,9 @@ corners_count n v place (w ∷ ws) us is =
     let count = corners_count n v (place + 1) ws later.0 later.1 in
     omega (arith, ap length (sym (ok_same (first.0 ∷ later.0) us later.2)), count)
 
+abbrev sized : ℕ → Option ℕ → List (List ℕ) → Result ℕ OffFault
+sized n size words = ok_or size (FaceSize n) >>= λ k. if nat_le 3 k && nat_le k (length words) then Ok k else Err (FaceSize n)
+
 sized_few : (n k : ℕ) (size : Option ℕ) (words : List (List ℕ)) → sized n size words ≡ Ok k → k ≤ length words
 sized_few n k None words is = absurd cc
 sized_few n k (Some s) words is = elim (cases_Bool (nat_le 3 s && nat_le s (length words))) [
@@ -57,8 +67,7 @@ sized_few n k (Some s) words is = elim (cases_Bool (nat_le 3 s && nat_le s (leng
 
 size_few : (n k : ℕ) (words : List (List ℕ)) → size_of n words ≡ Ok k → k ≤ length (drop 1 words)
 unfolding size_of
-size_few n k [] is = absurd cc
-size_few n k (w ∷ ws) is = sized_few n k (whole w) ws is
+size_few n k words is = sized_few n k (number_at words 0) (drop 1 words) is
 
 sides_kept : (n sides k : ℕ) → sides + k ≤ 6000000 → few_sides true n sides k ≡ Ok k
 sides_kept n sides k le = rw (le-ltb 6000000 (sides + k) le) refl

@@ -1,8 +1,9 @@
 -- Copy lines of a text: comments `# copy i from v`, which say of which vertex each copy is.
 use Rattle.std.specs.Prelude.{◌+◌, ◌^◌, ℕ, Bool, false, ◌==◌, ◌&&◌, nat_lt, List, [], ◌∷◌, length, codes}
-use Rattle.std.specs.Prelude.{Option, Some, None, Result, Ok, Err, if◌then◌else◌}
+use Rattle.std.specs.Prelude.{Option, Some, None, ok_or, Result, Ok, Err, if◌then◌else◌}
 use Rattle.std.specs.List.{slice_split, filter}
 use Rattle.std.specs.Str.{bytes_eq}
+use Rattle.surf_base.specs.Gives.{◌>>=◌}
 use Rattle.surf_text.specs.Text.{is_line_end, words_of, whole}
 use Rattle.surf_sew.specs.declared.copies.CopyFault.{CopyFault}
 use Rattle.surf_sew.specs.declared.copies.CopyFault.TheVariants.{CopyForm, CopyCount}
@@ -43,24 +44,19 @@ origin_of place (sign ∷ copy ∷ i ∷ from ∷ v ∷ []) =
     if bytes_eq from (codes "from") then origin_at place (whole i) (whole v) else None
 origin_of place _ = None
 
--- an origin in front of those that are read behind it
-abbrev pub with_origin : ℕ → Option ℕ → Result (List ℕ) CopyFault → Result (List ℕ) CopyFault
-with_origin line None later = Err (CopyForm line)
-with_origin line (Some v) (Ok origins) = Ok (v ∷ origins)
-with_origin line (Some v) (Err fault) = Err fault
-
 -- the origins that copy lines name, the first of them that of the copy at a place, or the first line that hasn't the
 -- form
 unfoldable pub origins_from : ℕ → List WordLine → Result (List ℕ) CopyFault
 origins_from place [] = Ok []
-origins_from place (line ∷ lines) =
-    with_origin line.number (origin_of place line.words) (origins_from (place + 1) lines)
+origins_from place (line ∷ lines) = do
+  v ← ok_or (origin_of place line.words) (CopyForm line.number)
+  later ← origins_from (place + 1) lines
+  Ok (v ∷ later)
 
 -- as many as there are copies
-abbrev pub counted : ℕ → Result (List ℕ) CopyFault → Result (List ℕ) CopyFault
-counted count (Ok origins) = if length origins == count then Ok origins else Err (CopyCount (length origins))
-counted count (Err fault) = Err fault
+abbrev pub counted : ℕ → List ℕ → Result (List ℕ) CopyFault
+counted count origins = if length origins == count then Ok origins else Err (CopyCount (length origins))
 
 -- the origins of so many copies that the copy lines of a text name, or the first fault
 abbrev pub copies_in : List ℕ → ℕ → Result (List ℕ) CopyFault
-copies_in text count = counted count (origins_from 0 (copy_lines text))
+copies_in text count = origins_from 0 (copy_lines text) >>= counted count

@@ -65,7 +65,7 @@ LinesAreSewn =
     (parts : OffParts) (mesh : Mesh) (origins : List ℕ) (faces : List (List ℕ)) → WasCut parts mesh origins faces
     → (sewn_lines (opened_parts parts origins).vertex_lines origins mesh.vertices ≡ parts.vertex_lines)
     × (sewn_text (opened_parts parts origins) origins mesh
-    ≡ mesh_text parts.header parts.vertex_lines mesh.faces parts.colours (edge_count mesh))
+    ≡ mesh_text parts mesh.faces (edge_count mesh))
 
 -- The text of what is sewn is read, without limits, as the mesh that was cut.
 abbrev pub SewnAreReread : Type 0

@@ -2,7 +2,7 @@
 use Rattle.std.specs.Prelude.{◌≡◌, ◌<◌, ◌+◌, ℕ, suc, Bool, true, not, ◌==◌, List, [], ◌∷◌, length, map}
 use Rattle.std.specs.Prelude.{slice_index, slice_index_or, Option, Some, None, Result, Ok, Err, if◌then◌else◌}
 use Rattle.std.specs.List.{find, list_any, position_or_len, range_with_len}
-use Rattle.std.specs.Option.{option_map}
+use Rattle.std.specs.Option.{option_map, option_or}
 use Rattle.std.specs.Str.{bytes_eq}
 use Rattle.surf_surfaces.specs.Mesh.{Mesh}
 use Rattle.surf_off.specs.Off.{first_repeat}
@@ -55,14 +55,10 @@ sewn_face origins face = map (slice_index origins) face
 abbrev pub sewn_faces : List ℕ → List (List ℕ) → List (List ℕ)
 sewn_faces origins faces = map (sewn_face origins) faces
 
-abbrev pub repeat_or : ℕ → Option ℕ → Option SewFault → Option SewFault
-repeat_or f None later = later
-repeat_or f (Some v) later = Some (FaceRepeat f v)
-
 -- the first face that has a vertex at two corners, and its first that stands before; the first of all is numbered f
 unfoldable pub repeat_from : ℕ → List (List ℕ) → Option SewFault
 repeat_from f [] = None
-repeat_from f (face ∷ faces) = repeat_or f (first_repeat [] face) (repeat_from (f + 1) faces)
+repeat_from f (face ∷ faces) = option_or (option_map (FaceRepeat f) (first_repeat [] face)) (repeat_from (f + 1) faces)
 
 -- a fault, where there is one
 abbrev pub unless : Option SewFault → Result Mesh SewFault → Result Mesh SewFault

@@ -2,6 +2,7 @@ use Rattle.surf_surfaces.proofs.Common.{◌≡◌, ◌+◌, ℕ, List, [], ◌�
 use Rattle.surf_text.specs.Text.{is_line_end, words_of}
 use Rattle.surf_text.specs.Walks.{parts_of}
 use Rattle.surf_sew.specs.declared.copies.CopyFault.TheVariants.{CopyCount}
+use Rattle.surf_base.specs.Gives.{◌>>=◌}
 use Rattle.surf_sew.specs.Copies.{WordLine, word_lines_from, copies_among, copy_lines, origins_from, is_copy, origin_of, counted}
 use Rattle.surf_sew.proofs.CopyLines.{with_origins, with_none, copy_line, bad_line, no_line}
 use Rattle.surf_sew.proofs.copies.read_copies.Goals as goal
@@ -28,7 +29,7 @@ returns-in_default-read_origin-clause-copies c =
     let place : c.len.result ≡ length front = omega (arith, c.len.ensures, c.loop-marked.origins.ok.0) in
     let origin : origin_of (length front) (words_of line) ≡ None = ap (λ (k : ℕ). origin_of k (words_of line)) (sym place) ∙ sym c.read_origin.ensures.origin ∙ c.in_default-read_origin.is in
     let bad = sym c.loop-marked.invariant.so_far ∙ ap (λ (ls : List WordLine). with_origins front (origins_from (length front) ls)) left ∙ bad_line n front line parts copy origin in
-    λ other. ap (counted c.args.count) bad
+    λ other. ap (λ r. r >>= counted c.args.count) bad
 
 pub loop-marked-preserved-in-Continue-1 : goal.loop-marked-preserved-in-Continue-1
 loop-marked-preserved-in-Continue-1 c =
@@ -59,7 +60,7 @@ returns-then-len-count-clause-copies c =
     let place : c.len-2.result ≡ length front = omega (arith, c.len-2.ensures, c.loop-marked.origins.ok.0) in
     let have : c.len-then-len-count.result ≡ length front = omega (arith, c.len-then-len-count.ensures, c.loop-marked.origins.ok.0) in
     let other : (length front == c.args.count) ≡ false = ne_eqb _ _ (λ e. c.if-len-count.true (place ∙ e)) in
-    λ m. ap (counted c.args.count) all ∙ ap (λ (b : Bool). cond b (Ok front) (Err (CopyCount (length front)))) other ∙ ap (λ (k : ℕ). Err (CopyCount k)) (sym have)
+    λ m. ap (λ r. r >>= counted c.args.count) all ∙ ap (λ (b : Bool). cond b (Ok front) (Err (CopyCount (length front)))) other ∙ ap (λ (k : ℕ). Err (CopyCount k)) (sym have)
 
 pub returns-clause-copies : goal.returns-clause-copies
 returns-clause-copies c =
@@ -68,4 +69,4 @@ returns-clause-copies c =
     let all = sym c.loop-marked.invariant.so_far ∙ ap (λ (ls : List WordLine). with_origins front (origins_from (length front) ls)) (c.in_default.ensures.copies n) ∙ no_line n front in
     let place : c.len-2.result ≡ length front = omega (arith, c.len-2.ensures, c.loop-marked.origins.ok.0) in
     let same : (length front == c.args.count) ≡ true = eq-eqb _ _ (omega (arith, place, c.if-len-count.false)) in
-    ap (counted c.args.count) all ∙ ap (λ (b : Bool). cond b (Ok front) (Err (CopyCount (length front)))) same
+    ap (λ r. r >>= counted c.args.count) all ∙ ap (λ (b : Bool). cond b (Ok front) (Err (CopyCount (length front)))) same

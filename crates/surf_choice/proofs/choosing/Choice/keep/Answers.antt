@@ -1,6 +1,6 @@
-use Rattle.surf_surfaces.proofs.Common.{◌<◌, ◌^◌, [], take, refl, sym, ap, ◌∙◌, subst, arith, take-map}
+use Rattle.surf_surfaces.proofs.Common.{◌≡◌, ◌<◌, ◌^◌, List, length, [], take, refl, sym, ap, ◌∙◌, subst, arith, take-map}
 use Rattle.surf_choice.specs.declared.candidate.Signed.{Signed}
-use Rattle.surf_choice.specs.Candidates.{Chosen, signed_earlier, signatures}
+use Rattle.surf_choice.specs.Candidates.{Chosen, signed_earlier, candidates, signatures}
 use Rattle.surf_choice.specs.Echelons.{Rows, AreRowsOf}
 use Rattle.surf_choice.proofs.Changed.{part_small, front_small, kept_after_small}
 use Rattle.surf_choice.proofs.Fronts.{rows_front}
@@ -15,10 +15,10 @@ sift-requires-clause-small c =
     subst (λ (k : Chosen). AreSmall k.width c.args.offered.now) (sym c.self.view_is) c.requires.small in
     let merged : AreSmall t.width c.merge.new.merged.items =
     subst (AreSmall t.width) (sym c.merge.ensures.merged)
-    (all_merged signed_earlier P _ _ (part_small P c.in-Some.change.place c.deref-2.result.now t.kept.items c.deref-2.ensures.value c.self.invariant.4)
+    (all_merged signed_earlier P _ _ (part_small P c.in-Some.change.place c.deref-3.result.now t.kept.items c.deref-3.ensures.value c.self.invariant.4)
     (part_small P c.in-Some.change.fresh c.args.offered.now c.args.offered.now refl offered)) in
     let wide = ap (λ (r : Rows). r.width) c.truncate-2.ensures.rows ∙ c.self.invariant.0 in
-    subst (λ w. AreSmall w c.deref-3.result.now) (sym wide) (subst (AreSmall t.width) (sym c.deref-3.ensures.value) merged)
+    subst (λ w. AreSmall w c.deref-4.result.now) (sym wide) (subst (AreSmall t.width) (sym c.deref-4.ensures.value) merged)
 
 pub sift-requires-clause-rows : goal.sift-requires-clause-rows
 sift-requires-clause-rows c =
@@ -36,7 +36,7 @@ invariant_of-self-2 c =
     subst (λ (k : Chosen). AreSmall k.width c.args.offered.now) (sym c.self.view_is) c.requires.small in
     let merged : AreSmall t.width c.merge.new.merged.items =
     subst (AreSmall t.width) (sym c.merge.ensures.merged)
-    (all_merged signed_earlier P _ _ (part_small P c.in-Some.change.place c.deref-2.result.now t.kept.items c.deref-2.ensures.value c.self.invariant.4)
+    (all_merged signed_earlier P _ _ (part_small P c.in-Some.change.place c.deref-3.result.now t.kept.items c.deref-3.ensures.value c.self.invariant.4)
     (part_small P c.in-Some.change.fresh c.args.offered.now c.args.offered.now refl offered)) in
     let front : AreSmall t.width c.truncate.new.self.items =
     subst (AreSmall t.width) (sym c.truncate.ensures.items) (front_small P c.in-Some.change.place t.kept.items c.self.invariant.4) in
@@ -47,6 +47,15 @@ invariant_of-self-2 c =
       omega (arith, c.sift.ensures.room, c.truncate.ensures.capacity, c.self.invariant.2),
       c.self.invariant.3,
       subst (AreSmall t.width) (sym c.sift.ensures.kept)
-          (kept_after_small P c.truncate.new.self.items c.deref-3.result.now front (subst (AreSmall t.width) (sym c.deref-3.ensures.value) merged)),
+          (kept_after_small P c.truncate.new.self.items c.deref-4.result.now front (subst (AreSmall t.width) (sym c.deref-4.ensures.value) merged)),
       c.sift.ensures.rows,
+      c.list_keys.ensures.keys ∙ ap candidates c.deref-5.ensures.value,
+      omega (arith, c.list_keys.ensures.room, c.self.invariant.7),
     )
+
+pub list_keys-requires : goal.list_keys-requires
+list_keys-requires c =
+    let wide = c.sift.ensures.width ∙ ap (λ (r : Rows). r.width) c.truncate-2.ensures.rows ∙ c.self.invariant.0 in
+    let many = as_many c.sift.new.kept.items c.sift.new.rows.rows c.sift.ensures.rows in
+    let same : length c.deref-5.result.now ≡ length c.sift.new.kept.items = ap (λ (xs : List Signed). length xs) c.deref-5.ensures.value in
+    record { room = omega (arith, many, wide, same, c.law_of_echelon.ensures.few, c.self.invariant.7) }

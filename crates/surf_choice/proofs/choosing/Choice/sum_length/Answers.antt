@@ -1,4 +1,4 @@
-use Rattle.surf_surfaces.proofs.Common.{◌≡◌, ℕ, suc, ◌<◌, ◌≤◌, ◌-◌, take, length, get_or, sym, ap, subst, ◌∙◌, arith, get_or_default, take_all, IsInOrder, numbers, Spanned}
+use Rattle.surf_surfaces.proofs.Common.{◌≡◌, ℕ, ◌<◌, ◌≤◌, ◌-◌, take, length, get_or, sym, ap, subst, ◌∙◌, arith, get_or_default, take_all, IsInOrder, numbers, Spanned}
 use Rattle.surf_choice.specs.declared.candidate.Signed.{Signed}
 use Rattle.surf_choice.specs.Candidates.{Chosen, signatures, IsSumOfLength}
 use Rattle.surf_choice.specs.Places.{stands_before}
