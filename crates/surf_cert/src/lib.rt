@@ -17,7 +17,9 @@
 //! fault by fault. What is written is read as what it was written of.
 #![tactic(auto)]
 
+mod blank;
 mod fault;
+mod front;
 mod line;
 mod next;
 mod read;
