@@ -1,9 +1,9 @@
 -- A certificate of loops whose text goes while it is read.
-use Rattle.std.specs.Prelude.{◌-◌, ◌/◌, ◌++◌, ℕ, List, [], codes, map, Result, Ok}
+use Rattle.std.specs.Prelude.{◌-◌, ◌/◌, ◌++◌, ℕ, Bool, false, List, [], ◌∷◌, codes, map, Result, Ok}
 use Rattle.surf_base.specs.Gives.{◌>>=◌}
-use Rattle.surf_text.specs.Text.{TextLine}
+use Rattle.surf_text.specs.Text.{TextLine, tokens_of}
 use Rattle.surf_validity.specs.Rows.{TreeRows, DualRows, LoopCert}
-use Rattle.surf_cert.specs.Lines.{counts_of, base_of, the_word, dual_row}
+use Rattle.surf_cert.specs.Lines.{is_header, counts_of, base_of, the_word, dual_row}
 use Rattle.surf_cert.specs.Grammar.{Read, next_of, rows_of, based_tree, left_of, cert_ended}
 use Rattle.surf_cert.specs.declared.fault.CertText.{CertText}
 use Rattle.surf_cert.specs.declared.line.Counts.{Counts}
@@ -36,3 +36,8 @@ behind_front front lines = do
   dual ← more_faces front.2 (front.0.faces - front_faces front.0) lines
   left ← left_of front.0.left dual.1
   cert_ended (record { tree = front.1; dual = dual.0; left = left.0 }) left.1
+
+-- whether the first line is that of a loop certificate
+abbrev pub begins_loops : List TextLine → Bool
+begins_loops [] = false
+begins_loops (line ∷ lines) = is_header (codes "loops") (tokens_of line.bytes)

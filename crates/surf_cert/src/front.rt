@@ -1,19 +1,19 @@
 //! Certificates of loops whose text goes while it is read.
-ghost use Rattle.std.specs.Prelude.{◌<◌, ◌+◌, drop, length};
+ghost use Rattle.std.specs.Prelude.{◌≡◌, ◌<◌, ◌+◌, drop, length};
 ghost use Rattle.surf_text.specs.Text.{lines_of};
 ghost use Rattle.surf_base.specs.Gives.{Gives};
-ghost use Rattle.surf_cert.specs.Grammar.{loops_in};
-ghost use Rattle.surf_cert.specs.Fronts.{front_faces, front_in, behind_front};
+ghost use Rattle.surf_cert.specs.Grammar.{loops_in, parsed_cert};
+ghost use Rattle.surf_cert.specs.Fronts.{front_faces, front_in, behind_front, begins_loops};
 
 use crate::blank::drop_lines;
 use crate::fault::CertText;
-use crate::line::Counts;
+use crate::line::{Counts, is_header};
 use crate::next::{next_counts, next_word};
-use crate::read::read_end;
+use crate::read::{read_cert, read_end};
 use crate::sections::{face_tables, read_left, read_more_faces, read_tree};
 use std::alloc::Global;
 use surf_base::VertexId;
-use surf_records::{DualRows, LoopCert, TreeRows};
+use surf_records::{Cert, DualRows, LoopCert, TreeRows};
 use surf_text::Lines;
 
 /// What is read of a certificate of loops when the front of its text goes: the counts, the tree,
@@ -81,8 +81,8 @@ fn read_behind(alloc: Global, text: &[u8], front: Front) -> Result<LoopCert, Cer
     Ok(LoopCert::make(tree, DualRows::make(depth, side), left))
 }
 
-/// The certificate of loops behind the first line of a text, which goes while it is read.
-pub(crate) fn take_loops(alloc: Global, mut text: Vec<u8>) -> Result<LoopCert, CertText>
+// The certificate of loops behind the first line of a text, which goes while it is read.
+fn take_loops(alloc: Global, mut text: Vec<u8>) -> Result<LoopCert, CertText>
     requires short { length text.items < 4294967295 }
     ensures loops { Gives CertText.Memory (λ x. x) result (loops_in (drop 1 (lines_of text.items))) }
 {
@@ -90,4 +90,31 @@ pub(crate) fn take_loops(alloc: Global, mut text: Vec<u8>) -> Result<LoopCert, C
     let lines = front.counts.vertices as usize + (front.counts.faces / 3) as usize + 4;
     drop_lines(&mut text, lines);
     read_behind(alloc, &text, front)
+}
+
+// Whether the first line of a text is that of a certificate of loops.
+fn begins_loops(text: &[u8]) -> bool
+    requires short { length text.now < 4294967295 }
+    ensures loops { result ≡ begins_loops (lines_of text.now) }
+{
+    let mut lines = Lines::over(text);
+    match lines.next_line() {
+        Some(line) => is_header(line.bytes, b"loops"),
+        None => false,
+    }
+}
+
+/// Reads the text of a certificate as `read_cert` does. The text of a certificate of loops goes
+/// while it is read: a third of the rows of faces stands in tables when the lines up to there go,
+/// so the text and the tables never take their whole room at once.
+#[tactic(auto, using(crate::proofs::FrontLines::loops_begun))]
+pub fn take_cert(alloc: Global, text: Vec<u8>) -> Result<Cert, CertText>
+    requires short { length text.items < 4294967295 }
+    ensures cert { Gives CertText.Memory (λ x. x) result (parsed_cert text.items) }
+{
+    if !begins_loops(&text) {
+        return read_cert(alloc, &text);
+    }
+    let cert = take_loops(alloc, text)?;
+    Ok(Cert::Loops(cert))
 }

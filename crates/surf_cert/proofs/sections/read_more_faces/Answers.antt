@@ -11,7 +11,7 @@ loop-init c =
 
 pub returns-in_err-row : goal.returns-in_err-row
 returns-in_err-row c =
-    let p = err_from_is_err_and c.from_residual-in_err-row.result c.from_residual-in_err-row.ensures.1 in
+    let p = err_from_is_err_and c.from_residual.result c.from_residual.ensures.1 in
     let rows : DualRows = record { depth = c.loop.depth.items; side = c.loop.side.items } in
     rw (p.1, p.2) (record { more = λ other. row_bad dual_row push_face c.args.faces c.loop.counter rows c.loop.lines _ c.loop.invariant c.in_err-row.field-0.0 c.loop-test.true (c.in_err-row.ensures.row other) })
 
