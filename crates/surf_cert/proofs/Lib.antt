@@ -1,3 +1,5 @@
+pub mod BlankLines
+pub mod FrontLines
 pub mod Numbers
 pub mod RowLines
 pub mod WrittenRows

@@ -6,7 +6,8 @@ use Rattle.surf_cert.specs.declared.fault.CertText.{CertText}
 use Rattle.surf_validity.specs.Rows.{TreeRows, DualRows}
 use Rattle.surf_cert.specs.Lines.{tree_row, dual_row, pair_behind, base_at}
 use Rattle.surf_base.specs.Gives.{◌>>=◌}
-use Rattle.surf_cert.specs.Grammar.{next_of, onto_rows, rows_of, pairs_of, tree_of, dual_rows_of, based_tree, trees_of}
+use Rattle.surf_cert.specs.Fronts.{more_faces}
+use Rattle.surf_cert.specs.Grammar.{next_of, onto_rows, rows_of, pairs_of, tree_of, based_tree, trees_of}
 
 -- what was made of the rows so far, and of those that are still read
 abbrev pub with_rows : {A S : Type 0} → (S → A → S) → S → Result (List A × List TextLine) CertText
@@ -82,14 +83,14 @@ tree_start base v lines = at (rows_of tree_row v lines)
     at (Ok rows) = ap (λ (t : TreeRows). Ok (t, rows.1)) (fold_vertices (record { base = base; distance = []; parent = [] }) rows.0)
     at (Err e) = refl
 
-pub dual_start : (f : ℕ) (lines : List TextLine)
-    → with_rows push_face (record { depth = []; side = [] }) (rows_of dual_row f lines) ≡ dual_rows_of f lines
-unfolding dual_rows_of
-dual_start f lines = at (rows_of dual_row f lines)
+pub faces_start : (dual : DualRows) (f : ℕ) (lines : List TextLine)
+    → with_rows push_face dual (rows_of dual_row f lines) ≡ more_faces dual f lines
+unfolding more_faces
+faces_start dual f lines = at (rows_of dual_row f lines)
   where
     at : (read : Result (List (ℕ × Option (ℕ × ℕ)) × List TextLine) CertText)
-        → with_rows push_face (record { depth = []; side = [] }) read ≡ (read >>= λ rows. Ok (record { depth = map (λ row. row.0) rows.0; side = map (λ row. row.1) rows.0 }, rows.1))
-    at (Ok rows) = ap (λ (t : DualRows). Ok (t, rows.1)) (fold_faces (record { depth = []; side = [] }) rows.0)
+        → with_rows push_face dual read ≡ (read >>= λ rows. Ok (record { depth = dual.depth ++ map (λ row. row.0) rows.0; side = dual.side ++ map (λ row. row.1) rows.0 }, rows.1))
+    at (Ok rows) = ap (λ (t : DualRows). Ok (t, rows.1)) (fold_faces dual rows.0)
     at (Err e) = refl
 
 -- the same for a list of rows

@@ -17,7 +17,9 @@
 //! fault by fault. What is written is read as what it was written of.
 #![tactic(auto)]
 
+mod blank;
 mod fault;
+mod front;
 mod line;
 mod next;
 mod read;
@@ -25,6 +27,7 @@ mod sections;
 mod write;
 
 pub use fault::CertText;
+pub use front::take_cert;
 pub use read::read_cert;
 pub use surf_records::{BasisCert, Cert, DualRows, LoopCert, TreeRows};
 pub use write::{write_basis_cert, write_loop_cert};

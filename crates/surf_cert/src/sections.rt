@@ -1,8 +1,9 @@
 //! The parts of a certificate, read line by line.
-ghost use Rattle.std.specs.Prelude.{None};
+ghost use Rattle.std.specs.Prelude.{◌≡◌, None, [], IfOk, IfErr};
 ghost use Rattle.surf_cert.specs.Lines.{base_of, base_at, cycle_of};
 ghost use Rattle.surf_cert.specs.Grammar.{tree_of, based_tree, trees_of, rows_of, dual_rows_of, dual_of, pairs_of};
 ghost use Rattle.surf_cert.specs.Grammar.{left_of, cycles_of};
+ghost use Rattle.surf_cert.specs.Fronts.{more_faces};
 ghost use Rattle.surf_base.specs.Gives.{Gives};
 
 use crate::fault::CertText;
@@ -82,20 +83,48 @@ pub(crate) fn read_trees(
     Ok(trees)
 }
 
-// The rows of so many faces. Their tables take their room at once, and no more than a surface's,
-// whatever a text claims.
-fn read_dual_rows(alloc: Global, lines: &mut Lines<'_>, faces: u32) -> Result<DualRows, CertText>
-    ensures dual { Gives CertText.Memory (λ x. (x, lines.new)) result
-        (dual_rows_of faces lines.old) }
+/// The rows of so many more faces, behind those of two tables.
+pub(crate) fn read_more_faces(
+    lines: &mut Lines<'_>,
+    faces: u32,
+    depth: &mut Vec<u32>,
+    side: &mut Vec<Option<(VertexId, VertexId)>>,
+) -> Result<(), CertText>
+    ensures more { Gives CertText.Memory
+        (λ _. (record { depth = depth.new.items; side = side.new.items }, lines.new)) result
+        (more_faces (record { depth = depth.old.items; side = side.old.items }) faces lines.old) }
 {
-    let room = faces.min(MAX_FACES) as usize;
-    let mut depth = Vec::with_capacity(alloc, room)?;
-    let mut side = Vec::with_capacity(alloc, room)?;
     for _ in 0..faces {
         let row = next_dual_row(lines)?;
         depth.push(row.0)?;
         side.push(row.1)?;
     }
+    Ok(())
+}
+
+/// Empty tables for the rows of so many faces. They take their room at once, and no more than a
+/// surface's, whatever a text claims.
+pub(crate) fn face_tables(
+    alloc: Global,
+    faces: u32,
+) -> Result<(Vec<u32>, Vec<Option<(VertexId, VertexId)>>), CertText>
+    ensures none { IfOk result (λ t. (t.0.items ≡ []) × (t.1.items ≡ [])) }
+    ensures memory { IfErr result (λ e. e ≡ CertText.Memory) }
+{
+    let room = faces.min(MAX_FACES) as usize;
+    let depth = Vec::with_capacity(alloc, room)?;
+    let side = Vec::with_capacity(alloc, room)?;
+    Ok((depth, side))
+}
+
+// The rows of so many faces.
+#[tactic(auto, unfolding(crate::specs::Grammar::dual_rows_of, crate::specs::Fronts::more_faces))]
+fn read_dual_rows(alloc: Global, lines: &mut Lines<'_>, faces: u32) -> Result<DualRows, CertText>
+    ensures dual { Gives CertText.Memory (λ x. (x, lines.new)) result
+        (dual_rows_of faces lines.old) }
+{
+    let (mut depth, mut side) = face_tables(alloc, faces)?;
+    read_more_faces(lines, faces, &mut depth, &mut side)?;
     Ok(DualRows::make(depth, side))
 }
 

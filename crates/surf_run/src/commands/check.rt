@@ -16,7 +16,7 @@ use crate::surfaces::measured_surface;
 use std::alloc::Global;
 use surf_answers::{Answered, judge};
 use surf_base::{LimitKind, MAX_CERTIFICATE_VERTICES, Shelf};
-use surf_cert::{Cert, read_cert};
+use surf_cert::{Cert, take_cert};
 use surf_lengths::Lengths;
 use surf_mesh::HalfMesh;
 use surf_texts::Refused;
@@ -65,7 +65,7 @@ fn cert_of(alloc: Global, text: Vec<u8>) -> Result<Cert, Refused>
     requires { length text.items ≤ MAX_TEXT }
     ensures { Takes (λ cert. cert) (IsCertText text.items) result }
 {
-    let cert = read_cert(alloc, &text)?;
+    let cert = take_cert(alloc, text)?;
     Ok(cert)
 }
 
