@@ -1,6 +1,6 @@
 -- A certificate of loops by its front and the lines behind that.
 use Rattle.surf_surfaces.proofs.Common.{◌≡◌, ◌≤◌, ◌+◌, ◌-◌, ◌++◌, ℕ, zero, suc, List, [], ◌∷◌, drop, Option, Some, None, Result, Ok, Err, true, refl, sym, ◌∙◌, ap, subst, codes, arith, map, IfOk, MatchOption}
-use Rattle.std.specs.Prelude.{⊤}
+use Rattle.std.specs.Prelude.{⊤, ok_or}
 use Rattle.std.proofs.lemmas.List.{drop-drop, map-append}
 use Rattle.std.proofs.Math.Nat.{div-le_self}
 use Rattle.surf_text.specs.Text.{TextLine, tokens_of}
@@ -9,9 +9,10 @@ use Rattle.surf_base.specs.Gives.{Gives, ◌>>=◌}
 use Rattle.surf_text.specs.Walks.{text_line}
 use Rattle.surf_text.specs.declared.lines.Line.{Line}
 use Rattle.surf_cert.specs.declared.fault.CertText.{CertText}
-use Rattle.surf_cert.specs.declared.fault.CertText.TheVariants.{Memory}
+use Rattle.surf_cert.specs.declared.fault.CertText.TheVariants.{Memory, Form, Trailing}
 use Rattle.surf_cert.specs.Lines.{counts_of, base_of, tree_row, dual_row, the_word}
-use Rattle.surf_cert.specs.Grammar.{LineForm, Read, formed, and_lines, next_of, onto_rows, rows_of, tree_of, based_tree, dual_rows_of, dual_of, left_of, cert_ended, loops_in, as_loops, cert_in}
+use Rattle.surf_cert.specs.Grammar.{LineForm, Read, next_of, onto_rows, rows_of, tree_of, based_tree, dual_rows_of, dual_of, left_of, ended, loops_in, cert_in}
+use Rattle.surf_records.specs.declared.cert.Cert.TheVariants.{Loops}
 use Rattle.surf_cert.specs.Fronts.{Front, front_faces, more_faces, front_in, behind_front, begins_loops}
 use Rattle.surf_cert.specs.declared.line.Counts.{Counts}
 
@@ -28,7 +29,7 @@ unfolding next_of Leaves
 next_leaves form [] = tt
 next_leaves {A} form (line ∷ lines) = at (form (tokens_of line.bytes))
   where
-    at : (x : Option A) → Leaves 1 (line ∷ lines) (and_lines lines (formed line.number x))
+    at : (x : Option A) → Leaves 1 (line ∷ lines) (ok_or x (Form line.number) >>= λ x. Ok (x, lines))
     at None = tt
     at (Some x) = refl
 
@@ -38,7 +39,7 @@ rows_leave form zero lines = refl
 rows_leave form (suc n) [] = tt
 rows_leave {A} form (suc n) (line ∷ lines) = at (form (tokens_of line.bytes)) (rows_leave form n lines)
   where
-    at : (x : Option A) → Leaves n lines (rows_of form n lines) → Leaves (suc n) (line ∷ lines) (and_lines lines (formed line.number x) >>= λ x. onto_rows x.0 (rows_of form n x.1))
+    at : (x : Option A) → Leaves n lines (rows_of form n lines) → Leaves (suc n) (line ∷ lines) ((ok_or x (Form line.number) >>= λ x. Ok (x, lines)) >>= λ x. onto_rows x.0 (rows_of form n x.1))
     at None same = tt
     at (Some x) same = onto_leaves x n line lines (rows_of form n lines) same
 
@@ -97,7 +98,7 @@ faces_split m f lines le =
     at (Err e) = refl
 
 abbrev end_of : Counts → TreeRows → DualRows × List TextLine → Result LoopCert CertText
-end_of counts tree dual = left_of counts.left dual.1 >>= λ left. cert_ended (record { tree = tree; dual = dual.0; left = left.0 }) left.1
+end_of counts tree dual = left_of counts.left dual.1 >>= λ left. ended Trailing left.1 (record { tree = tree; dual = dual.0; left = left.0 })
 
 abbrev front_of : Counts → TreeRows → DualRows × List TextLine → Read Front
 front_of counts tree dual = Ok ((counts, tree, dual.0), dual.1)
@@ -202,7 +203,7 @@ pub front_bad : (lines : List TextLine) (e : CertText) → front_in lines ≡ Er
 front_bad lines e is = loops_split lines ∙ ap (λ (read : Read Front). read >>= behind) is
 
 -- a text that begins as a loop certificate
-pub loops_begun : (lines : List TextLine) → begins_loops lines ≡ true → cert_in lines ≡ as_loops (loops_in (drop 1 lines))
+pub loops_begun : (lines : List TextLine) → begins_loops lines ≡ true → cert_in lines ≡ (loops_in (drop 1 lines) >>= λ cert. Ok (Loops cert))
 unfolding cert_in
 loops_begun [] begun = absurd cc
 loops_begun (line ∷ lines) begun = rw begun refl

@@ -4,8 +4,9 @@ use Rattle.surf_base.specs.Gives.{◌>>=◌}
 use Rattle.surf_text.specs.Text.{TextLine, tokens_of}
 use Rattle.surf_validity.specs.Rows.{TreeRows, DualRows, LoopCert}
 use Rattle.surf_cert.specs.Lines.{is_header, counts_of, base_of, the_word, dual_row}
-use Rattle.surf_cert.specs.Grammar.{Read, next_of, rows_of, based_tree, left_of, cert_ended}
+use Rattle.surf_cert.specs.Grammar.{Read, next_of, rows_of, based_tree, left_of, ended}
 use Rattle.surf_cert.specs.declared.fault.CertText.{CertText}
+use Rattle.surf_cert.specs.declared.fault.CertText.TheVariants.{Trailing}
 use Rattle.surf_cert.specs.declared.line.Counts.{Counts}
 
 -- the rows of so many more faces behind some
@@ -35,7 +36,7 @@ unfoldable pub behind_front : Front → List TextLine → Result LoopCert CertTe
 behind_front front lines = do
   dual ← more_faces front.2 (front.0.faces - front_faces front.0) lines
   left ← left_of front.0.left dual.1
-  cert_ended (record { tree = front.1; dual = dual.0; left = left.0 }) left.1
+  ended Trailing left.1 (record { tree = front.1; dual = dual.0; left = left.0 })
 
 -- whether the first line is that of a loop certificate
 abbrev pub begins_loops : List TextLine → Bool
