@@ -48,6 +48,7 @@ mod kept_loops;
 mod marks;
 mod pace;
 mod reached;
+mod round;
 mod rounds;
 mod scout;
 mod surface;
