@@ -4,7 +4,7 @@ use Rattle.surf_firsts.specs.Near.{AgreeOff}
 use Rattle.surf_cotree.specs.Tables.{CotreeTables}
 use Rattle.surf_choice.specs.Candidates.{Chosen}
 use Rattle.surf_search.specs.Found.{SurfaceTables}
-use Rattle.surf_search.specs.Passing.{is_marked, AreKeptIn, StayKept, IsAhead}
+use Rattle.surf_search.specs.Passing.{is_marked, IsAhead}
 
 -- what isn't in a set isn't in a lesser one
 off_less : (s t : ℕ → Bool) → ((v : ℕ) → IsTrue (s v) → IsTrue (t v)) → (v : ℕ) → t v ≡ false → s v ≡ false
@@ -41,18 +41,3 @@ ahead_on f old new before after h mesh signs stay off = record {
       (subst (λ m. AgreeOff m old.lengths new.lengths (is_marked after)) h.mesh off);
 }
 
--- what a scout keeps it keeps by the lengths of the finder behind it
-pub ahead_kept : (f scout : SurfaceTables) (before after : List Bool) (choice : Chosen) → IsAhead f scout before →
-    ArePositive f.mesh f.lengths → StayKept scout before after choice →
-    AreKeptIn f.mesh f.lengths f.signs (is_marked before) choice → AreKeptIn f.mesh f.lengths f.signs (is_marked after) choice
-ahead_kept f scout before after choice h positive stay kept =
-    let at : (m : Mesh) (s : CotreeTables) → m ≡ f.mesh → s ≡ f.signs → ((lengths : List ℕ) → ArePositive m lengths →
-    AgreeOff m lengths scout.lengths (is_marked before) → AreKeptIn m lengths s (is_marked before) choice →
-    AreKeptIn m lengths s (is_marked after) choice) →
-    AreKeptIn f.mesh f.lengths f.signs (is_marked after) choice =
-    λ m s e d k. subst (λ t. (AreKeptIn f.mesh f.lengths t (is_marked before) choice →
-    AreKeptIn f.mesh f.lengths t (is_marked after) choice)) d
-    (subst (λ x. (ArePositive x f.lengths → AgreeOff x f.lengths scout.lengths (is_marked before) →
-    AreKeptIn x f.lengths s (is_marked before) choice → AreKeptIn x f.lengths s (is_marked after) choice)) e (k f.lengths)
-    positive h.off) kept in
-    at scout.mesh scout.signs h.mesh h.signs stay

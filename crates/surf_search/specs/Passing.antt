@@ -16,7 +16,7 @@ use Rattle.surf_near.specs.Links.{IsShutAt}
 use Rattle.surf_choice.specs.declared.candidate.Candidate.{Candidate}
 use Rattle.surf_choice.specs.Candidates.{Chosen}
 use Rattle.surf_choice.specs.Places.{limit_of}
-use Rattle.surf_search.specs.Found.{SurfaceTables, AreKeptOf, IsFirstOf}
+use Rattle.surf_search.specs.Found.{SurfaceTables, IsFirstOf}
 use Rattle.surf_search.specs.Signing.{AreSignatures}
 
 -- whether a vertex is marked in a table

@@ -8,6 +8,7 @@ use Rattle.surf_graphs.specs.Cells.{Split, IsSplit}
 use Rattle.surf_graphs.specs.Trees.{Tree}
 use Rattle.surf_surfaces.specs.Mesh.{Mesh}
 use Rattle.surf_surfaces.specs.Surface.{edge_count, ends}
+use Rattle.surf_surfaces.specs.Walk.{ArePositive}
 use Rattle.surf_surfaces.specs.Cells.{cells_of}
 use Rattle.surf_surfaces.specs.Class.{class_of}
 use Rattle.surf_surfaces.specs.Choice.{Trees, AreChosen}
@@ -89,6 +90,7 @@ pub record IsKeptAt (f : SurfaceTables) (base : ℕ) (limit : Option Candidate) 
 
 -- a finder bars vertices that are marked: its lengths differ at edges there alone, and are no shorter
 pub record IsBarring (f scout : SurfaceTables) (marks : List Bool) : Type 0 where
+  pub positive : ArePositive f.mesh f.lengths
   pub count : length marks ≡ f.mesh.vertices
   pub ahead : IsAhead f scout marks
   pub no_shorter : AreNoShorter f.mesh f.lengths scout.lengths

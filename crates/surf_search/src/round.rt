@@ -76,6 +76,7 @@ pub(crate) fn keep_at(
 ) -> Result<(), NoMemory>
     requires base { base < finder.old.mesh.vertices }
     requires signed { AreSigned finder.old.mesh finder.old.signs choice.old.width }
+    requires few { (finder.old.mesh.vertices ≤ 2 ^ 32) × (edge_count finder.old.mesh ≤ 2 ^ 32) }
     requires wide { IsWider limit.now wide.now }
     ensures found { OnOk result (AreFound finder.old.mesh finder.old.lengths finder.old.signs
         wide.now base found.new.items) }
@@ -132,6 +133,8 @@ fn search(
     ensures surface { round.new.surface ≡ round.old.surface }
     ensures least { round.new.least ≡ round.old.least }
 {
+    round.surface.mesh.law_of_surface();
+    round.scout.finder.law_of_finder();
     let limit = capped(&choice.limit(), cap);
     let wide = round.scout.pace.limit(&limit);
     keep_at(
@@ -281,6 +284,7 @@ pub(crate) fn search_rising(
     ensures width { choice.new.width ≡ choice.old.width }
 {
     surface.mesh.law_of_surface();
+    surface.lengths.law_of_lengths();
     let vertices = list_rising(alloc, caps, reached)?;
     let scout = Scout {
         finder: Finder::make(alloc, surface)?,

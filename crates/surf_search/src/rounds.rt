@@ -22,10 +22,10 @@ use surf_tree::even_length;
 
 /// What all rounds go by: a surface, vertices of a cut, and what searches cost.
 #[derive(Clone, Copy)]
-struct Plan<'p, 'a> {
-    surface: &'p SignedSurface<'a>,
-    vertices: &'p [VertexId],
-    costs: Costs<'p>,
+struct Plan<'s, 'v, 'c, 'a> {
+    surface: &'s SignedSurface<'a>,
+    vertices: &'v [VertexId],
+    costs: Costs<'c>,
 }
 
 // A copy of caps, raised to what edges ask for by what is kept, though to no more than a length.
@@ -71,7 +71,7 @@ fn cut_caps(
 // is kept, or those of a cut, whichever cost less.
 fn round_caps(
     alloc: Global,
-    plan: &Plan<'_, '_>,
+    plan: &Plan<'_, '_, '_, '_>,
     most: u64,
     reached: &[u64],
     choice: &Choice,
@@ -105,7 +105,7 @@ fn raise_to(most: u64, reached: &mut [u64])
 // A round, which finds what is no longer than a length. Up to a lesser one nothing is left to find.
 fn run_round(
     alloc: Global,
-    plan: &Plan<'_, '_>,
+    plan: &Plan<'_, '_, '_, '_>,
     least: u64,
     most: u64,
     reached: &mut [u64],
@@ -172,7 +172,7 @@ fn are_shorter(choice: &Choice, most: u64) -> bool
 // Tells up to which length nothing is left to find.
 fn run_short_rounds(
     alloc: Global,
-    plan: &Plan<'_, '_>,
+    plan: &Plan<'_, '_, '_, '_>,
     reached: &mut [u64],
     choice: &mut Choice,
 ) -> Result<u64, NoMemory>
@@ -207,7 +207,7 @@ fn run_short_rounds(
 // Rounds up to the last, which finds all that is left.
 fn run_rounds(
     alloc: Global,
-    plan: &Plan<'_, '_>,
+    plan: &Plan<'_, '_, '_, '_>,
     reached: &mut [u64],
     choice: &mut Choice,
 ) -> Result<(), NoMemory>
@@ -241,6 +241,7 @@ fn begin(
     choice: &mut Choice,
 ) -> Result<(), NoMemory>
     requires base { 0 < finder.old.mesh.vertices }
+    requires few { (finder.old.mesh.vertices ≤ 2 ^ 32) × (edge_count finder.old.mesh ≤ 2 ^ 32) }
     requires reached { length reached.old ≡ finder.old.mesh.vertices }
     requires signed { AreSigned finder.old.mesh finder.old.signs choice.old.width }
     requires kept { AreKeptUpTo finder.old (in_caps reached.old) choice.old }
