@@ -1,5 +1,6 @@
 -- What is kept of the loops at vertices that are searched as far as their caps, search by search.
-use Rattle.surf_surfaces.proofs.Common.{◌≡◌, ℕ, suc, ◌<◌, ◌≤◌, ◌≢◌, ◌+◌, ◌-◌, ◌*◌, ◌^◌, Bool, true, eqb, leb, leb-true, le-leb, not, List, [], ◌++◌, length, get_or, map, filter, take, All, Contains, IsPermutation, Option, Some, None, refl, sym, ap, ◌∙◌, subst, arith, inl, inr, IsTrue, ◌&&◌, cases_eq, or_cases, or_left, or_right, and_parts, and_from, nat_tests, merge, greedy, numbers, is_nothing, Decides-is_nothing, Independent, Spanned, InSpan, AllInSpan, trans_in, in_from_spanned, spanned_from_in, zero_in, member_in, Split, IsSplit, Tree, Mesh, edge_count, IsSurface, IsClosed, ArePositive, cells_of, class_of, AreShortestTrees, loop_walk, loop_length, Place, place_at, Found, IsFoundLoop, is_within, walks_found, walks_within, DependsOn, DependsAtPlace, comes_no_later, least_base, Contains-permutation, All-permutation, IsPermutation-sym, cases_lt, false≢true, All-take, chosen, Sorted, sorted_from_order, order_from_sorted, sorted_greedy, greedy_law, same_members, IsInOrder, recursion_from_All, All-from_recursion, AllByRecursion, All-append, All-contains, Contains-append_left, Contains-append_right, Contains-append_cases, Contains-get_or, get_or-take, length-take-le, map-map, get_or_default, all_filtered, IsNull, IsFoundAt, is_no_later, place_of_found, ◌∷◌, ◌||◌, ◌⊎◌}
+use Rattle.surf_surfaces.proofs.Common.{◌≡◌, ℕ, suc, ◌<◌, ◌≤◌, ◌≢◌, ◌+◌, ◌-◌, ◌*◌, ◌^◌, Bool, true, false, eqb, leb, leb-true, le-leb, not, List, [], ◌++◌, length, get_or, map, filter, take, All, Contains, IsPermutation, Option, Some, None, refl, sym, ap, ◌∙◌, subst, arith, inl, inr, IsTrue, ◌&&◌, cases_eq, or_cases, or_left, or_right, and_parts, and_from, nat_tests, merge, greedy, numbers, is_nothing, Decides-is_nothing, Independent, Spanned, InSpan, AllInSpan, trans_in, in_from_spanned, spanned_from_in, zero_in, member_in, Split, IsSplit, Tree, Mesh, edge_count, IsSurface, IsClosed, ArePositive, cells_of, class_of, AreShortestTrees, loop_walk, loop_length, Place, place_at, Found, IsFoundLoop, is_within, walks_found, walks_within, DependsOn, DependsAtPlace, comes_no_later, least_base, Contains-permutation, All-permutation, IsPermutation-sym, cases_lt, false≢true, All-take, take_more, IsNonDecreasingBy, chosen, Sorted, sorted_from_order, order_from_sorted, sorted_greedy, greedy_law, same_members, IsInOrder, recursion_from_All, All-from_recursion, AllByRecursion, All-append, All-contains, Contains-append_left, Contains-append_right, Contains-get_or, get_or-take, length-take-le, map-map, get_or_default, all_filtered, IsNull, IsFoundAt, is_no_later, place_of_found, ◌∷◌, ◌||◌, ◌⊎◌}
+use Rattle.std.proofs.lemmas.List.Elements.{Contains-append_cases}
 use Rattle.surf_surfaces.proofs.bases.FirstFoundLaws.{loop_closed}
 use Rattle.surf_surfaces.proofs.bases.FewBasesLaws.{no_later-same}
 use Rattle.surf_surfaces.proofs.classes.ClassLaws.{null_by_class}
@@ -16,7 +17,7 @@ use Rattle.surf_caps.proofs.Starts.{both_start, limited_start, found_are_walks}
 use Rattle.surf_choice.specs.declared.candidate.Candidate.{Candidate}
 use Rattle.surf_choice.specs.declared.candidate.Signed.{Signed}
 use Rattle.surf_choice.specs.Candidates.{Chosen, signed_earlier, independent_of, signatures, IsLonger, IsSumOfLength}
-use Rattle.surf_choice.specs.Places.{place_of, is_sought, limit_of, stands_before}
+use Rattle.surf_choice.specs.Places.{place_of, is_sought, limit_of, order_of, stands_before}
 use Rattle.surf_choice.proofs.Limits.{merged_sorted, limit_falls}
 use Rattle.surf_choice.proofs.Longer.{shorter_first}
 use Rattle.surf_search.specs.Found.{IsFound, AreFoundBy, found_of}
@@ -380,3 +381,29 @@ module _ (mesh : Mesh) (lengths : List ℕ) (trees : ℕ → Tree) (surface : Is
           order = k.order;
           independent = k.independent;
         }
+
+-- one more of some loops
+pub longer_more : (kept : List Signed) (least old new sum i : ℕ) (found : List Signed) (s : Signed) → i < length found →
+    s ≡ get_or found i s → new ≤ old → AreLongerOr kept least old (take i found) → IsSumOfLength kept sum s.signature →
+    (sum ≤ least) ⊎ (sum + new ≤ s.candidate.length) → AreLongerOr kept least new (take (i + 1) found)
+longer_more kept least old new sum i found s l same le all is one =
+    subst (AreLongerOr kept least new) (sym (take_more found i s l ∙ ap (λ x. take i found ++ x ∷ []) (sym same)))
+    (All-append (λ c. (n : ℕ) × IsSumOfLength kept n c.signature × ((n ≤ least) ⊎ (n + new ≤ c.candidate.length)))
+    (take i found) (s ∷ [])
+    (λ k d k_in. (let (n, are, far) = all k d k_in in (n, are, elim far [
+      | inl low ↦ inl low
+      | inr more ↦ inr (omega (arith, more, le))
+    ])))
+    (All-from_recursion (λ c. (n : ℕ) × IsSumOfLength kept n c.signature × ((n ≤ least) ⊎ (n + new ≤ c.candidate.length)))
+    (s ∷ []) ((sum, is, one), tt)))
+
+-- the front of a list in order is so
+pub sorted_front : (n : ℕ) (list : List Signed) → n ≤ length list → IsNonDecreasingBy order_of list →
+    IsNonDecreasingBy order_of (take n list)
+sorted_front n list n_in order i j s le l =
+    let long = length-take-le n list n_in in
+    let j_n : j < n = omega (arith, l, long) in
+    let a = ap order_of (get_or-take n list i s (omega (arith, le, j_n))) in
+    let b = ap order_of (get_or-take n list j s j_n) in
+    let c = order i j s le (omega (arith, j_n, n_in)) in
+    omega (arith, a, b, c)

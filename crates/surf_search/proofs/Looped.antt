@@ -1,6 +1,7 @@
 -- The loops of which kept candidates tell.
-use Rattle.surf_surfaces.proofs.Common.{◌≡◌, ℕ, zero, suc, ◌<◌, ◌++◌, Bool, true, List, [], ◌∷◌, length, get_or, map, swap, set, All, Contains, IsPermutation, refl, sym, ap, ◌∙◌, subst, arith, numbers, is_nothing, greedy, IsInOrder, Split, Tree, Mesh, class_of, loop_walk, map-map, map-append, length-map, get_or-map, recursion_from_All, AllByRecursion, Found, walks_found, comes_no_later}
-use Rattle.core.specs.List.Sorted.{apply_swaps, SwapsInRange}
+use Rattle.surf_surfaces.proofs.Common.{◌≡◌, ℕ, zero, suc, ◌<◌, ◌++◌, Bool, true, List, [], ◌∷◌, length, get_or, map, set, All, Contains, IsPermutation, refl, sym, ap, ◌∙◌, subst, arith, numbers, is_nothing, greedy, IsInOrder, Split, Tree, Mesh, class_of, loop_walk, map-map, map-append, length-map, get_or-map, recursion_from_All, AllByRecursion, Found, walks_found, comes_no_later}
+use Rattle.std.specs.List.{swap}
+use Rattle.std.specs.List.Sorted.{apply_swaps, SwapsInRange}
 use Rattle.std.proofs.lemmas.List.{map-set, length-append}
 use Rattle.surf_choice.specs.declared.candidate.Signed.{Signed}
 use Rattle.surf_choice.specs.Candidates.{independent_of, signatures}
@@ -15,8 +16,9 @@ mapped_swap : {A B : Type 0} (f : A → B) (xs : List A) (i j : ℕ) → map f (
 mapped_swap f [] i j = refl
 mapped_swap f (x ∷ xs) i j =
     map-set f (set (x ∷ xs) i (get_or (x ∷ xs) j x)) j (get_or (x ∷ xs) i x)
-    ∙ (λ t. set (map-set f (x ∷ xs) i (get_or (x ∷ xs) j x) ∙ ap (set (f x ∷ map f xs) i) (sym (read f (x ∷ xs) j x)) t) j
-    (sym (read f (x ∷ xs) i x) t))
+    ∙ ap (λ ys. set ys j (f (get_or (x ∷ xs) i x))) (map-set f (x ∷ xs) i (get_or (x ∷ xs) j x)
+    ∙ ap (set (f x ∷ map f xs) i) (sym (read f (x ∷ xs) j x)))
+    ∙ ap (set (set (f x ∷ map f xs) i (get_or (f x ∷ map f xs) j (f x))) j) (sym (read f (x ∷ xs) i x))
   where
     read : {A B : Type 0} (f : A → B) (xs : List A) (k : ℕ) (d : A) → get_or (map f xs) k (f d) ≡ f (get_or xs k d)
     read f [] k d = refl
@@ -111,4 +113,6 @@ module _ (mesh : Mesh) (d : Split) where
     where
       of : (cs : List Signed) → AllByRecursion (IsFound mesh lengths trees d) cs → Tells (map (found_of mesh trees) cs) cs
       of [] h = refl
-      of (c ∷ cs) h t = (c.candidate.length, (c.candidate.base, sym h.0.signature t)) ∷ of cs h.1 t
+      of (c ∷ cs) h =
+          ap (λ v. (c.candidate.length, (c.candidate.base, v)) ∷ map (told_of mesh d) (map (found_of mesh trees) cs))
+          (sym h.0.signature) ∙ ap (λ ts. told_by c ∷ ts) (of cs h.1)

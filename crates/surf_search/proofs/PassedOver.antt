@@ -18,9 +18,8 @@ use Rattle.surf_choice.specs.declared.candidate.Signed.{Signed}
 use Rattle.surf_choice.specs.Candidates.{Chosen, signatures, IsLonger}
 use Rattle.surf_choice.specs.Places.{stands_before, is_sought, limit_of}
 use Rattle.surf_choice.proofs.Longer.{shorter_first}
-use Rattle.surf_search.specs.Found.{SurfaceTables, IsFound, AreFound, AreFoundBy, found_of, is_among, AreKeptOf}
-use Rattle.surf_search.specs.Passing.{is_marked, AreMarkedNear, spare_of, StayKept}
-use Rattle.surf_search.proofs.Searched.{depends_null, zero_null, loops_found, kept_fewer}
+use Rattle.surf_search.specs.Found.{SurfaceTables, IsFound, AreFound, AreFoundBy, found_of, is_among}
+use Rattle.surf_search.specs.Passing.{is_marked, AreMarkedNear}
 
 -- ---- places
 

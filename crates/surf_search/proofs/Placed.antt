@@ -1,5 +1,5 @@
 -- A loop that was found has its own place.
-use Rattle.std.proofs.Common.{◌≡◌, ℕ, zero, suc, Bool, true, false, eqb, eq-eqb, cond, List, [], ◌∷◌, length, map, filter, Contains, refl, ap, ◌∙◌, subst, arith}
+use Rattle.std.proofs.Common.{◌≡◌, ℕ, zero, suc, ◌<◌, Bool, true, false, eqb, eq-eqb, cond, List, [], ◌∷◌, length, get_or, map, filter, Contains, refl, sym, ap, ◌∙◌, subst, arith}
 use Rattle.surf_surfaces.proofs.Common.{or_right, Split, Mesh, Found, place_of_found, Contains-get_or}
 use Rattle.surf_choice.specs.declared.candidate.Signed.{Signed}
 use Rattle.surf_choice.specs.Places.{place_of}

@@ -1,5 +1,5 @@
 -- Rounds: what is kept of their searches, and in the end has the places of the basis.
-use Rattle.surf_surfaces.proofs.Common.{◌≡◌, ℕ, ◌<◌, ◌≤◌, ◌*◌, ◌⊎◌, Bool, true, eqb, leb, le-leb, leb-true, not, List, [], length, get_or, set, All, eq-eqb, edge_count, Found, is_no_later, merge, get_or_default, Contains, Option, refl, sym, ap, ◌∙◌, subst, arith, inl, inr, IsTrue, ◌&&◌, ◌||◌, cases_Bool, cases_eq, cases_lt, or_cases, or_left, or_right, and_parts, and_from, false≢true, eqb-true, Tree, Mesh, IsSurface, ArePositive, IsLoopCount, MeetsAll, AreShortestTrees, Place, replicate, get_or_past, get_or-replicate, length-replicate}
+use Rattle.surf_surfaces.proofs.Common.{◌≡◌, ℕ, ◌<◌, ◌≤◌, ◌*◌, ◌^◌, ◌⊎◌, ◌∷◌, Bool, true, false, eqb, leb, le-leb, leb-true, not, List, [], length, get_or, set, All, eq-eqb, edge_count, Found, is_no_later, merge, get_or_default, Contains, Option, refl, sym, ap, ◌∙◌, subst, arith, inl, inr, IsTrue, ◌&&◌, ◌||◌, cases_Bool, cases_eq, cases_lt, or_cases, or_left, or_right, and_parts, and_from, false≢true, eqb-true, Tree, Mesh, IsSurface, ArePositive, IsLoopCount, MeetsAll, AreShortestTrees, Place, replicate, get_or_past, get_or-replicate, length-replicate}
 use Rattle.surf_surfaces.proofs.bases.ChoiceExists.{choice_exists}
 use Rattle.surf_surfaces.proofs.bases.FewBasesLaws.{least_base_on_way}
 use Rattle.surf_surfaces.proofs.bases.FirstCycleLaws.{shortest_trees}

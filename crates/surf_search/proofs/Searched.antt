@@ -17,7 +17,7 @@ use Rattle.surf_choice.specs.Places.{place_of, is_sought, last_of, limit_of, sta
 use Rattle.surf_choice.proofs.Limits.{IsShort, merged_sorted, sorted_by_number, before_last, limit_none, limit_last, limit_falls, all_sought}
 use Rattle.surf_choice.proofs.Sifted.{all_merged, all_kept, greedy_mapped}
 use Rattle.surf_search.specs.Signing.{AreSigned}
-use Rattle.surf_search.specs.Found.{IsFound, AreFoundBy, AreFound, found_of, is_among, AreKeptOf, IsNext}
+use Rattle.surf_search.specs.Found.{IsFound, AreFoundBy, AreFound, found_of, is_among}
 use Rattle.surf_search.proofs.Signed.{class_small}
 
 -- ---- the vertices of a list
@@ -67,6 +67,19 @@ sorted_places mesh trees (c ∷ cs) s = (
 pub depends_null : (mesh : Mesh) (before : List (List ℕ)) (walk : List ℕ) → IsNull mesh walk → DependsOn mesh before walk
 depends_null mesh before walk (faces, is) = ([], (faces, λ e l. xor-false (parity mesh walk e) ∙ is e l))
 
+-- what a search found, in another order
+pub found_permuted : (mesh : Mesh) (lengths : List ℕ) (trees : ℕ → Tree) (d : Split) (limit : Option Candidate) (z : ℕ) (found list : List Signed) → IsPermutation found list →
+    AreFoundBy mesh lengths trees d limit z found → AreFoundBy mesh lengths trees d limit z list
+found_permuted mesh lengths trees d limit z found list same h = record {
+  each = All-permutation (IsFound mesh lengths trees d) found list same h.each;
+  here = All-permutation (λ c. c.from ≡ z) found list same h.here;
+  sooner = All-permutation (λ c. IsTrue (is_sought limit (place_of c.candidate))) found list same h.sooner;
+  some = All-permutation (λ c. c.signature ≢ 0) found list same h.some;
+  all = λ e e_in some sought.
+      (let (c, has, from_is, edge_is) = h.all e e_in some sought in
+      (c, Contains-permutation found list c same has, from_is, edge_is));
+}
+
 module _ (mesh : Mesh) (lengths : List ℕ) (trees : ℕ → Tree) (surface : IsSurface mesh)
     (positive : ArePositive mesh lengths) (shortest : AreShortestTrees mesh lengths trees) (d : Split)
     (split : IsSplit (cells_of mesh) d) where
@@ -110,19 +123,6 @@ module _ (mesh : Mesh) (lengths : List ℕ) (trees : ℕ → Tree) (surface : Is
           subst (λ y. IsFoundAt mesh lengths trees y e (found_of mesh trees c)) from_is
               (subst (λ f. IsFoundAt mesh lengths trees c.from f (found_of mesh trees c)) edge_is (found_at c right)),
         ));
-  }
-
-  -- in another order they are the same
-  pub found_permuted : (limit : Option Candidate) (z : ℕ) (found list : List Signed) → IsPermutation found list →
-      AreFoundBy mesh lengths trees d limit z found → AreFoundBy mesh lengths trees d limit z list
-  found_permuted limit z found list same h = record {
-    each = All-permutation Right found list same h.each;
-    here = All-permutation (λ c. c.from ≡ z) found list same h.here;
-    sooner = All-permutation (λ c. IsTrue (is_sought limit (place_of c.candidate))) found list same h.sooner;
-    some = All-permutation (λ c. c.signature ≢ 0) found list same h.some;
-    all = λ e e_in some sought.
-        (let (c, has, from_is, edge_is) = h.all e e_in some sought in
-        (c, Contains-permutation found list c same has, from_is, edge_is));
   }
 
   -- the choice among those kept and those found, by their walks

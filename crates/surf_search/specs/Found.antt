@@ -1,8 +1,7 @@
 -- Loops that searches find, as signed candidates.
 use Rattle.std.specs.Prelude.{ℕ, ◌≡◌, ◌≢◌, ◌<◌, ◌+◌, ◌^◌, ◌==◌, ◌&&◌, ◌||◌, true, false, ◌⊎◌, fold, IsPermutation, not, min, nat_lt, Bool, IsTrue, bit_xor, List, [], ◌∷◌, map, All, Contains, length, slice_index, Option, Some, None, if◌then◌else◌}
 use Rattle.std.specs.List.Sorted.{IsNonDecreasingBy}
-use Rattle.surf_z2.specs.Order.{merge, IsInOrder}
-use Rattle.surf_z2.specs.Space.{numbers, Independent}
+use Rattle.surf_z2.specs.Order.{merge}
 use Rattle.surf_graphs.specs.Cells.{Split, IsSplit}
 use Rattle.surf_graphs.specs.Trees.{Tree}
 use Rattle.surf_surfaces.specs.Mesh.{Mesh}
@@ -20,7 +19,7 @@ use Rattle.surf_near.specs.declared.links.Link.{Link}
 use Rattle.surf_choice.specs.declared.candidate.Candidate.{Candidate}
 use Rattle.surf_choice.specs.declared.candidate.Signed.{Signed}
 use Rattle.surf_choice.specs.Candidates.{Chosen, earlier, signed_earlier, independent_of}
-use Rattle.surf_choice.specs.Places.{place_of, stands_before, order_of, is_sought, limit_of}
+use Rattle.surf_choice.specs.Places.{place_of, order_of, is_sought}
 use Rattle.surf_search.specs.declared.reached.Reached.{Reached}
 use Rattle.surf_search.specs.declared.surface.SignedSurface.{SignedSurface}
 use Rattle.surf_search.specs.Signing.{AreSignatures}

@@ -8,14 +8,11 @@ use Rattle.surf_surfaces.specs.Cells.{cells_of}
 use Rattle.surf_surfaces.specs.Choice.{Trees, AreChosen}
 use Rattle.surf_surfaces.specs.Surface.{edge_count}
 use Rattle.surf_surfaces.specs.Walk.{ArePositive, edge_length}
-use Rattle.surf_surfaces.specs.FewBases.{with_vertex}
 use Rattle.surf_surfaces.specs.ShortestTree.{IsShortestTree}
 use Rattle.surf_cotree.specs.Tables.{CotreeTables}
 use Rattle.surf_firsts.specs.Near.{AgreeOff}
 use Rattle.surf_near.specs.Links.{IsShutAt}
 use Rattle.surf_choice.specs.declared.candidate.Candidate.{Candidate}
-use Rattle.surf_choice.specs.Candidates.{Chosen}
-use Rattle.surf_choice.specs.Places.{limit_of}
 use Rattle.surf_search.specs.Found.{SurfaceTables, IsFirstOf}
 use Rattle.surf_search.specs.Signing.{AreSignatures}
 

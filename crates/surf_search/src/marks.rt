@@ -10,6 +10,7 @@ use surf_base::{NoMemory, VertexId};
 use surf_near::Links;
 
 /// Marks the vertices of a list, and bars the ways through those that weren't marked.
+#[tactic(auto, using(crate::proofs::Barred::bar_no_shorter))]
 pub(crate) fn mark_all(list: &[VertexId], links: &mut Links<'_>, marks: &mut [bool])
     requires inside { All (λ v. v < links.old.mesh.vertices) list.now }
     requires marks { length marks.old ≡ links.old.mesh.vertices }

@@ -1,5 +1,5 @@
 //! A round of searches: each goes no farther than a cap, and past no vertex that is done with.
-ghost use Rattle.std.specs.Prelude.{◌≡◌, ◌≢◌, ◌<◌, ◌≤◌, ◌^◌, ◌⊎◌, ℕ, true, false, IsTrue, All, IfOk, OnOk, IsPermutation, length, slice_index_or};
+ghost use Rattle.std.specs.Prelude.{◌≡◌, ◌≢◌, ◌<◌, ◌≤◌, ◌-◌, ◌^◌, ◌⊎◌, ℕ, true, false, IsTrue, All, IfOk, OnOk, IsPermutation, length, slice_index_or};
 ghost use Rattle.std.specs.List.Sorted.{IsNonDecreasingBy};
 ghost use Rattle.surf_surfaces.specs.Surface.{edge_count};
 ghost use Rattle.surf_choice.specs.Places.{place_of, is_sought, limit_of};
@@ -104,7 +104,10 @@ fn margin_above(choice: &Choice, found: &[Signed], least: u64, most: u64) -> u64
             return 0;
         }
         let sum = choice.sum_length(&signed.signature.bits());
-        if sum > least || sum == u64::MAX {
+        if sum == u64::MAX {
+            return 0;
+        }
+        if sum > least {
             margin = margin.min(signed.candidate.length.saturating_sub(sum));
         }
     }

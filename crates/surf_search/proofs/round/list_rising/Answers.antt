@@ -1,9 +1,10 @@
 use Rattle.surf_surfaces.proofs.Common.{◌≡◌, ℕ, ◌<◌, ◌++◌, ◌∷◌, [], List, All, length, sym, ap, ◌∙◌, subst, arith, All-permutation, All-push}
-use Rattle.surf_search.specs.Rounds.{AreRising}
+use Rattle.std.specs.List.Sorted.{IsNonDecreasingBy}
+use Rattle.surf_search.specs.Rounds.{AreRising, fall_order}
 use Rattle.surf_search.proofs.Capping.{rising_same, rising_more, rising_permuted}
 use Rattle.surf_search.proofs.Marked.{written_back}
-use Rattle.surf_search.proofs.rounds.list_rising.Goals as goal
-use Rattle.surf_search.proofs.rounds.list_rising.Goals.{then-far-cap+in_ok-push, else-far-cap}
+use Rattle.surf_search.proofs.round.list_rising.Goals as goal
+use Rattle.surf_search.proofs.round.list_rising.Goals.{then-far-cap+in_ok-push, else-far-cap}
 
 pub loop-v-preserved : goal.loop-v-preserved
 loop-v-preserved c =
@@ -29,19 +30,25 @@ loop-v-preserved c =
 pub returns-clause-inside : goal.returns-clause-inside
 returns-clause-inside c =
     let caps = c.args.caps.now in
-    let last = written_back c.scatter.new.vertices _ _ (omega (arith, c.scatter.auto.vertices, c.deref_mut.ensures.len)) in
+    let last = written_back c.sort_falling.new.vertices _ _ (omega (arith, c.sort_falling.auto.vertices, c.deref_mut.ensures.len)) in
     subst (λ (xs : List ℕ). All (λ v. v < length caps) xs) (sym last)
-    (All-permutation (λ v. v < length caps) c.deref_mut.result.now c.scatter.new.vertices c.scatter.ensures.same
+    (All-permutation (λ v. v < length caps) c.deref_mut.result.now c.sort_falling.new.vertices c.sort_falling.ensures.same
     (subst (λ (xs : List ℕ). All (λ v. v < length caps) xs) (sym c.deref_mut.ensures.value) c.loop-v.invariant.inside))
 
 pub returns-clause-rising : goal.returns-clause-rising
 returns-clause-rising c =
     let caps = c.args.caps.now in
     let reached = c.args.reached.now in
-    let last = written_back c.scatter.new.vertices _ _ (omega (arith, c.scatter.auto.vertices, c.deref_mut.ensures.len)) in
+    let last = written_back c.sort_falling.new.vertices _ _ (omega (arith, c.sort_falling.auto.vertices, c.deref_mut.ensures.len)) in
     let past = c.loop-v-test.false in
     let full : AreRising caps reached (length caps) c.loop-v.list.items =
     λ v l. c.loop-v.invariant.rising v (omega (arith, l, past)) in
     subst (λ (xs : List ℕ). AreRising caps reached (length caps) xs) (sym last)
-    (rising_permuted caps reached (length caps) c.deref_mut.result.now c.scatter.new.vertices c.scatter.ensures.same
+    (rising_permuted caps reached (length caps) c.deref_mut.result.now c.sort_falling.new.vertices c.sort_falling.ensures.same
     (subst (λ (xs : List ℕ). AreRising caps reached (length caps) xs) (sym c.deref_mut.ensures.value) full))
+
+pub returns-clause-falling : goal.returns-clause-falling
+returns-clause-falling c =
+    let caps = c.args.caps.now in
+    let last = written_back c.sort_falling.new.vertices _ _ (omega (arith, c.sort_falling.auto.vertices, c.deref_mut.ensures.len)) in
+    subst (λ (xs : List ℕ). IsNonDecreasingBy (fall_order caps) xs) (sym last) c.sort_falling.ensures.sorted

@@ -1,6 +1,6 @@
 use Rattle.std.proofs.Common.{◌<◌, All, length}
 use Rattle.surf_search.specs.Rounds.{AreRising}
-use Rattle.surf_search.proofs.rounds.list_rising.Given as goal
+use Rattle.surf_search.proofs.round.list_rising.Given as goal
 
 abbrev pub invariant-loop-v : goal.invariant-loop-v
 invariant-loop-v l = record {
