@@ -29,6 +29,9 @@ use Rattle.surf_search.proofs.Searched.{loops_found, places_found, no_fewer, of_
 
 -- ---- what is within a cap
 
+pub within_zero : (p : Place) → is_within_cap 0 p ≡ true → up_to_length 0 p ≡ true
+within_zero p h = grind (arith, nat_tests)
+
 pub within_start : (cap : ℕ) → IsSoughtFromStart (is_within_cap cap)
 within_start cap p q h k = grind (arith, nat_tests)
 

@@ -1,5 +1,5 @@
 -- Rounds: what is kept of their searches, and in the end has the places of the basis.
-use Rattle.surf_surfaces.proofs.Common.{◌≡◌, ℕ, ◌<◌, ◌≤◌, ◌*◌, ◌^◌, ◌⊎◌, ◌∷◌, Bool, true, false, eqb, leb, le-leb, leb-true, not, List, [], length, get_or, set, All, eq-eqb, edge_count, Found, is_no_later, merge, get_or_default, Contains, Option, refl, sym, ap, ◌∙◌, subst, arith, inl, inr, IsTrue, ◌&&◌, ◌||◌, cases_Bool, cases_eq, cases_lt, or_cases, or_left, or_right, and_parts, and_from, false≢true, eqb-true, Tree, Mesh, IsSurface, ArePositive, IsLoopCount, MeetsAll, AreShortestTrees, Place, replicate, get_or_past, get_or-replicate, length-replicate}
+use Rattle.surf_surfaces.proofs.Common.{◌≡◌, ℕ, ◌<◌, zero, suc, max, ◌≤◌, ◌≢◌, ◌+◌, ◌-◌, ◌*◌, ◌/◌, ◌%◌, ◌^◌, ◌⊎◌, get_or-set_same, get_or-set_other, ◌∷◌, Bool, true, false, eqb, leb, le-leb, leb-true, not, List, [], length, get_or, set, All, eq-eqb, edge_count, Found, is_no_later, merge, get_or_default, no_member, Contains, Option, refl, sym, ap, ◌∙◌, subst, arith, inl, inr, IsTrue, ◌&&◌, ◌||◌, cases_Bool, cases_eq, cases_lt, or_cases, or_left, or_right, and_parts, and_from, false≢true, eqb-true, Tree, Mesh, IsSurface, ArePositive, IsLoopCount, MeetsAll, AreShortestTrees, Place, replicate, get_or_past, get_or-replicate, length-replicate}
 use Rattle.surf_surfaces.proofs.bases.ChoiceExists.{choice_exists}
 use Rattle.surf_surfaces.proofs.bases.FewBasesLaws.{least_base_on_way}
 use Rattle.surf_surfaces.proofs.bases.FirstCycleLaws.{shortest_trees}
@@ -11,13 +11,16 @@ use Rattle.surf_choice.specs.declared.candidate.Candidate.{Candidate}
 use Rattle.surf_choice.specs.declared.candidate.Signed.{Signed}
 use Rattle.surf_choice.specs.Candidates.{Chosen, signed_earlier, independent_of}
 use Rattle.surf_choice.specs.Places.{limit_of, is_sought}
+use Rattle.std.proofs.Math.Nat.{pow-suc}
+use Rattle.std.specs.Int.{reverse_bits_onto}
 use Rattle.surf_search.specs.Found.{SurfaceTables, AreFound, is_among}
+use Rattle.surf_search.specs.Marks.{bits_backwards}
 use Rattle.surf_search.specs.Passing.{is_marked, AreMarkedNear, AreNoShorter, spare_of}
 use Rattle.surf_search.specs.Places.{HavePlacesOfBasis, is_placed}
-use Rattle.surf_search.specs.Rounds.{is_within_cap, cap_at, in_caps, in_round, IsCapped, AreKeptTo, AreKeptUpTo, AreCapped, IsKeptAt, IsBarring, KeepsInRound, AreLongerOr, AreRaisedTo}
+use Rattle.surf_search.specs.Rounds.{is_within_cap, cap_at, in_caps, in_round, IsCapped, AreKeptTo, AreKeptUpTo, AreCapped, IsKeptAt, IsBarring, KeepsInRound, AreLongerOr, AreNoLess, AreRaisedTo, fall_order}
 use Rattle.surf_search.specs.Signing.{AreSigned}
 use Rattle.surf_search.proofs.Asked.{caps_meet, cut_meets, raised_kept, capped_places, within_by_none, within_by_size, within_more}
-use Rattle.surf_search.proofs.Capped.{within_start, is_beyond, kept_fewer, kept_next, kept_near}
+use Rattle.surf_search.proofs.Capped.{within_start, within_zero, is_beyond, kept_begun, kept_fewer, kept_next, kept_near}
 use Rattle.surf_search.proofs.Capping.{capped_more}
 use Rattle.surf_search.proofs.Looped.{tells_at, tells_long, signed_of}
 use Rattle.surf_search.proofs.PassedOver.{marked_more}
@@ -189,6 +192,92 @@ visited_caps f caps new marks v cap bound choice surface positive on le each =
           or_right (in_caps caps y p) (is_marked marks y && is_within_cap cap p)
           (and_from (is_marked marks y) (is_within_cap cap p) parts.0 (within_more bound cap p le parts.1))
     ])
+
+-- an entry of a table is raised to a cap
+pub record IsRaisedAt (old new : List ℕ) (v cap : ℕ) : Type 0 where
+  pub each : (y : ℕ) → (cap_at new y ≡ cap_at old y) ⊎ ((y ≡ v) × (cap_at new y ≡ cap))
+  pub no_less : AreNoLess old new
+  pub there : cap ≤ cap_at new v
+
+pub raised_at : (old : List ℕ) (i j v cap n : ℕ) → i ≡ v → j ≡ v → v < length old → n ≡ max (get_or old i 0) cap →
+    IsRaisedAt old (set old j n) v cap
+raised_at old i j v cap n is same v_in at =
+    let own : cap_at (set old j n) v ≡ n =
+    ap (λ k. cap_at (set old k n) v) same ∙ get_or-set_same old v n 0 v_in in
+    let was : get_or old i 0 ≡ cap_at old v = ap (cap_at old) is in
+    let off : (y : ℕ) → y ≢ v → cap_at (set old j n) y ≡ cap_at old y =
+    λ y ne. ap (λ k. cap_at (set old k n) y) same ∙ get_or-set_other old v y n 0 ne in
+    elim (cases_lt (cap_at old v) cap) [
+      | inl less ↦
+          let up : n ≡ cap = omega (arith, at, was, less) in record {
+            each = λ y. elim (cases_eq y v) [ inl here ↦ inr (here, ap (cap_at (set old j n)) here ∙ own ∙ up) | inr ne ↦ inl (off y ne) ];
+            no_less = λ y. elim (cases_eq y v) [
+              | inl here ↦
+                  let a = ap (cap_at (set old j n)) here ∙ own ∙ up in
+                  let b = ap (cap_at old) here in
+                  omega (arith, a, b, less)
+              | inr ne ↦ let a = off y ne in omega (arith, a)
+            ];
+            there = omega (arith, own, up);
+          }
+      | inr more ↦
+          let up : n ≡ cap_at old v = omega (arith, at, was, more) in
+          let all : (y : ℕ) → cap_at (set old j n) y ≡ cap_at old y = λ y. elim (cases_eq y v) [
+            | inl here ↦ ap (cap_at (set old j n)) here ∙ own ∙ up ∙ sym (ap (cap_at old) here)
+            | inr ne ↦ off y ne
+          ] in record {
+            each = λ y. inl (all y);
+            no_less = λ y. (let a = all y in omega (arith, a));
+            there = omega (arith, own, up, more);
+          }
+    ]
+
+-- nothing is kept, and nothing is searched
+pub begun_none : (f : SurfaceTables) (caps : List ℕ) (choice : Chosen) → choice.kept ≡ [] → ((v : ℕ) → cap_at caps v ≡ 0) →
+    IsSurface f.mesh → ArePositive f.mesh f.lengths → AreKeptUpTo f (in_caps caps) choice
+begun_none f caps choice none low surface positive trees chosen d split are =
+    kept_begun f.mesh f.lengths (λ x. (trees x).tree) surface positive
+    (shortest_trees f.mesh f.lengths surface positive trees chosen) d split (limit_of choice) (in_caps caps) choice.kept none
+    (λ z p on. within_zero p (subst (λ n. is_within_cap n p ≡ true) (low z) on))
+
+-- a first search at vertex 0, as far as the surface goes
+pub begun_at : (f : SurfaceTables) (caps : List ℕ) (z : ℕ) (old new : Chosen) (limit : Option Candidate) → IsSurface f.mesh →
+    ArePositive f.mesh f.lengths → f.mesh.vertices ≤ 2 ^ 32 → edge_count f.mesh ≤ 2 ^ 32 → z ≡ 0 → 0 < f.mesh.vertices →
+    0 < length caps → IsCapped (limit_of old) 18446744073709551615 limit → IsKeptAt f z limit old new →
+    AreKeptUpTo f (in_caps caps) old → AreKeptUpTo f (in_caps (set caps 0 18446744073709551615)) new
+begun_at f caps z old new limit surface positive few_v few_e zero_is some room capped next kept =
+    let all : ℕ = 18446744073709551615 in
+    round_fewer f (with_places z (is_within_cap all) (in_caps caps)) (in_caps (set caps 0 all)) new surface positive
+    (λ y p on. elim (cases_eq y 0) [
+      | inl here ↦ or_right (in_caps caps y p) (eqb y z && is_within_cap all p)
+          (and_from (eqb y z) (is_within_cap all p) (eq-eqb y z (here ∙ sym zero_is)) (within_by_none all p (omega arith)))
+      | inr ne ↦ or_left (in_caps caps y p) (eqb y z && is_within_cap all p)
+          (subst (λ n. is_within_cap n p ≡ true) (get_or-set_other caps 0 y all 0 ne) on)
+    ])
+    (searched_here f f.lengths surface positive positive few_v few_e (λ e e_in. omega arith) no_member
+    (λ e e_in low high. refl) z all (omega (arith, zero_is, some)) (in_caps caps) (λ y. within_start (cap_at caps y))
+    (λ n p in_set on. absurd (false≢true in_set)) old new limit capped next kept)
+
+-- ---- the order of falling caps
+
+bits_bound : (k n a m : ℕ) → a < 2 ^ m → reverse_bits_onto k n a < 2 ^ (m + k)
+unfolding reverse_bits_onto
+bits_bound zero n a m l = subst (λ (e : ℕ). a < 2 ^ e) (omega arith) l
+bits_bound (suc k) n a m l =
+    let twice : 2 ^ suc m ≡ 2 ^ m * 2 = pow-suc 2 m in
+    let more : suc m + k ≡ m + suc k = omega arith in
+    subst (λ (e : ℕ). reverse_bits_onto k (n / 2) (a * 2 + n % 2) < 2 ^ e) more
+    (bits_bound k (n / 2) (a * 2 + n % 2) (suc m) (omega (arith, l, twice)))
+
+caps_in_order : (a b x y : ℕ) → a < 2 ^ 64 → b < 2 ^ 64 → x < 2 ^ 32 → y < 2 ^ 32 →
+    (18446744073709551615 - a) * 2 ^ 32 + x ≤ (18446744073709551615 - b) * 2 ^ 32 + y → b ≤ a
+caps_in_order a b x y la lb lx ly le = omega arith
+
+-- in that order caps fall
+pub caps_fall : (caps : List ℕ) (u v : ℕ) → cap_at caps u < 2 ^ 64 → cap_at caps v < 2 ^ 64 → fall_order caps u ≤ fall_order caps v →
+    cap_at caps v ≤ cap_at caps u
+caps_fall caps u v lu lv le = caps_in_order (cap_at caps u) (cap_at caps v) (bits_backwards u) (bits_backwards v) lu lv
+    (bits_bound 32 u 0 0 (omega arith)) (bits_bound 32 v 0 0 (omega arith)) le
 
 -- ---- the end of a round
 

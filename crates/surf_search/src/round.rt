@@ -254,6 +254,7 @@ fn search_each(
     ensures count { length reached.new ≡ length reached.old }
     ensures width { choice.new.width ≡ choice.old.width }
 {
+    round.surface.mesh.law_of_surface();
     for v in vertices {
         let cap = caps[v.index()];
         visit(round, *v, cap, choice)?;
