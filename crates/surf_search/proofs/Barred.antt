@@ -1,10 +1,11 @@
 -- Lengths that differ from others at edges with a marked end alone, while more vertices are marked.
-use Rattle.surf_surfaces.proofs.Common.{◌≡◌, ℕ, Bool, false, List, refl, sym, ◌∙◌, subst, inl, inr, IsTrue, cases_Bool, false≢true, Mesh, ends, ArePositive}
+use Rattle.surf_surfaces.proofs.Common.{◌≡◌, ℕ, ◌<◌, ◌≤◌, Bool, true, false, List, length, refl, ap, arith, touches, edge_length, edge_count, sym, ◌∙◌, subst, inl, inr, IsTrue, cases_Bool, false≢true, Mesh, ends, ArePositive}
 use Rattle.surf_firsts.specs.Near.{AgreeOff}
-use Rattle.surf_cotree.specs.Tables.{CotreeTables}
-use Rattle.surf_choice.specs.Candidates.{Chosen}
+use Rattle.surf_near.specs.declared.links.Link.{Link}
+use Rattle.surf_near.specs.Links.{AreLinks, IsShutAt, KeepsOff}
 use Rattle.surf_search.specs.Found.{SurfaceTables}
-use Rattle.surf_search.specs.Passing.{is_marked, AreKeptIn, StayKept, IsAhead}
+use Rattle.surf_search.specs.Passing.{is_marked, AreNoShorter, IsAhead}
+use Rattle.surf_search.specs.Rounds.{IsBarring}
 
 -- what isn't in a set isn't in a lesser one
 off_less : (s t : ℕ → Bool) → ((v : ℕ) → IsTrue (s v) → IsTrue (t v)) → (v : ℕ) → t v ≡ false → s v ≡ false
@@ -41,18 +42,36 @@ ahead_on f old new before after h mesh signs stay off = record {
       (subst (λ m. AgreeOff m old.lengths new.lengths (is_marked after)) h.mesh off);
 }
 
--- what a scout keeps it keeps by the lengths of the finder behind it
-pub ahead_kept : (f scout : SurfaceTables) (before after : List Bool) (choice : Chosen) → IsAhead f scout before →
-    ArePositive f.mesh f.lengths → StayKept scout before after choice →
-    AreKeptIn f.mesh f.lengths f.signs (is_marked before) choice → AreKeptIn f.mesh f.lengths f.signs (is_marked after) choice
-ahead_kept f scout before after choice h positive stay kept =
-    let at : (m : Mesh) (s : CotreeTables) → m ≡ f.mesh → s ≡ f.signs → ((lengths : List ℕ) → ArePositive m lengths →
-    AgreeOff m lengths scout.lengths (is_marked before) → AreKeptIn m lengths s (is_marked before) choice →
-    AreKeptIn m lengths s (is_marked after) choice) →
-    AreKeptIn f.mesh f.lengths f.signs (is_marked after) choice =
-    λ m s e d k. subst (λ t. (AreKeptIn f.mesh f.lengths t (is_marked before) choice →
-    AreKeptIn f.mesh f.lengths t (is_marked after) choice)) d
-    (subst (λ x. (ArePositive x f.lengths → AgreeOff x f.lengths scout.lengths (is_marked before) →
-    AreKeptIn x f.lengths s (is_marked before) choice → AreKeptIn x f.lengths s (is_marked after) choice)) e (k f.lengths)
-    positive h.off) kept in
-    at scout.mesh scout.signs h.mesh h.signs stay
+-- barring a vertex makes no edge shorter
+pub bar_no_shorter : (base mesh barred : Mesh) (given old new : List ℕ) (rows : List (List Link)) (v : ℕ) → mesh ≡ base →
+    barred ≡ mesh → AreNoShorter base given old → AreLinks mesh old rows → KeepsOff barred v old new → IsShutAt barred v new →
+    AreNoShorter base given new
+bar_no_shorter base mesh barred given old new rows v is same so_far links off shut e e_in =
+    let in_mesh : e < edge_count mesh = subst (λ (m : Mesh). e < edge_count m) (sym is) e_in in
+    let in_barred : e < edge_count barred = subst (λ (m : Mesh). e < edge_count m) (sym same) in_mesh in
+    let before = so_far e e_in in
+    elim (cases_Bool (touches v (ends barred e))) [
+      | inl on ↦
+          let at = shut e in_barred on in
+          let fits = (links.are_lengths e 0 (let n = links.as_many in omega (arith, n, in_mesh))).fits in
+          omega (arith, before, at, fits)
+      | inr out ↦ let at = off.same e in_barred out in omega (arith, before, at)
+    ]
+
+-- a finder that bars more vertices
+pub barring_on : (f scout old new : SurfaceTables) (before after : List Bool) → IsBarring f scout before → old ≡ scout →
+    new.mesh ≡ old.mesh → new.signs ≡ old.signs → length after ≡ length before →
+    ((v : ℕ) → IsTrue (is_marked before v) → IsTrue (is_marked after v)) →
+    AgreeOff old.mesh old.lengths new.lengths (is_marked after) → AreNoShorter old.mesh old.lengths new.lengths →
+    IsBarring f new after
+barring_on f scout old new before after h same mesh signs count stay off longer = record {
+  positive = h.positive;
+  count = count ∙ h.count;
+  ahead = ahead_on f old new before after (subst (λ (s : SurfaceTables). IsAhead f s before) (sym same) h.ahead) mesh signs stay off;
+  no_shorter = λ e e_in.
+      (let a = h.no_shorter e e_in in
+      let b : edge_length scout.lengths e ≤ edge_length new.lengths e =
+      subst (λ (s : SurfaceTables). edge_length s.lengths e ≤ edge_length new.lengths e) same
+      (longer e (subst (λ (m : Mesh). e < edge_count m) (sym (ap (λ (s : SurfaceTables). s.mesh) same ∙ h.ahead.mesh)) e_in)) in
+      omega (arith, a, b));
+}

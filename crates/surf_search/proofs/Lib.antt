@@ -6,6 +6,7 @@ pub mod Climbed
 pub mod Counted
 pub mod FirstFound
 pub mod Firsts
+pub mod Looped
 pub mod Marked
 pub mod NearFirst
 pub mod Numbered
@@ -15,6 +16,5 @@ pub mod Placed
 pub mod Rounded
 pub mod Searched
 pub mod Signed
-pub mod Sufficient
 pub mod Told
 pub mod Walked

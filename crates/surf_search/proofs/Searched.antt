@@ -17,7 +17,7 @@ use Rattle.surf_choice.specs.Places.{place_of, is_sought, last_of, limit_of, sta
 use Rattle.surf_choice.proofs.Limits.{IsShort, merged_sorted, sorted_by_number, before_last, limit_none, limit_last, limit_falls, all_sought}
 use Rattle.surf_choice.proofs.Sifted.{all_merged, all_kept, greedy_mapped}
 use Rattle.surf_search.specs.Signing.{AreSigned}
-use Rattle.surf_search.specs.Found.{IsFound, AreFoundBy, AreFound, found_of, is_among, AreKeptOf, IsNext}
+use Rattle.surf_search.specs.Found.{IsFound, AreFoundBy, AreFound, found_of, is_among}
 use Rattle.surf_search.proofs.Signed.{class_small}
 
 -- ---- the vertices of a list
@@ -67,6 +67,19 @@ sorted_places mesh trees (c ∷ cs) s = (
 pub depends_null : (mesh : Mesh) (before : List (List ℕ)) (walk : List ℕ) → IsNull mesh walk → DependsOn mesh before walk
 depends_null mesh before walk (faces, is) = ([], (faces, λ e l. xor-false (parity mesh walk e) ∙ is e l))
 
+-- what a search found, in another order
+pub found_permuted : (mesh : Mesh) (lengths : List ℕ) (trees : ℕ → Tree) (d : Split) (limit : Option Candidate) (z : ℕ) (found list : List Signed) → IsPermutation found list →
+    AreFoundBy mesh lengths trees d limit z found → AreFoundBy mesh lengths trees d limit z list
+found_permuted mesh lengths trees d limit z found list same h = record {
+  each = All-permutation (IsFound mesh lengths trees d) found list same h.each;
+  here = All-permutation (λ c. c.from ≡ z) found list same h.here;
+  sooner = All-permutation (λ c. IsTrue (is_sought limit (place_of c.candidate))) found list same h.sooner;
+  some = All-permutation (λ c. c.signature ≢ 0) found list same h.some;
+  all = λ e e_in some sought.
+      (let (c, has, from_is, edge_is) = h.all e e_in some sought in
+      (c, Contains-permutation found list c same has, from_is, edge_is));
+}
+
 module _ (mesh : Mesh) (lengths : List ℕ) (trees : ℕ → Tree) (surface : IsSurface mesh)
     (positive : ArePositive mesh lengths) (shortest : AreShortestTrees mesh lengths trees) (d : Split)
     (split : IsSplit (cells_of mesh) d) where
@@ -112,19 +125,6 @@ module _ (mesh : Mesh) (lengths : List ℕ) (trees : ℕ → Tree) (surface : Is
         ));
   }
 
-  -- in another order they are the same
-  pub found_permuted : (limit : Option Candidate) (z : ℕ) (found list : List Signed) → IsPermutation found list →
-      AreFoundBy mesh lengths trees d limit z found → AreFoundBy mesh lengths trees d limit z list
-  found_permuted limit z found list same h = record {
-    each = All-permutation Right found list same h.each;
-    here = All-permutation (λ c. c.from ≡ z) found list same h.here;
-    sooner = All-permutation (λ c. IsTrue (is_sought limit (place_of c.candidate))) found list same h.sooner;
-    some = All-permutation (λ c. c.signature ≢ 0) found list same h.some;
-    all = λ e e_in some sought.
-        (let (c, has, from_is, edge_is) = h.all e e_in some sought in
-        (c, Contains-permutation found list c same has, from_is, edge_is));
-  }
-
   -- the choice among those kept and those found, by their walks
   pub found_choice : (cs next : List Signed) → All Right cs → next ≡ independent_of cs →
       IsFoundChoice mesh (map (found_of mesh trees) cs) (map (found_of mesh trees) next)
@@ -166,152 +166,11 @@ module _ (mesh : Mesh) (lengths : List ℕ) (trees : ℕ → Tree) (surface : Is
         each ks (λ s has. sub s (suc has.0, omega (arith, has.1), has.2)) h,
       )
 
-  -- ---- one vertex more
-
-  abbrev Kept : Option Candidate → (ℕ → Bool) → List Signed → Type 0
-  Kept limit set kept = AreKeptOf mesh lengths trees d limit set kept
-
-  -- where nothing is found there
-  kept_none : (limit : Option Candidate) (set : ℕ → Bool) (z : ℕ) (kept : List Signed) → z < mesh.vertices →
-      Kept limit set kept → AreFoundBy mesh lengths trees d limit z [] → Kept limit (with_vertex z set) kept
-  kept_none limit set z kept z_in k h = record {
-    enough = record {
-      loops = k.enough.loops;
-      depend = λ y e y_in in_set e_in sought. elim (or_cases (set y) (eqb y z) in_set) [
-        | inl old ↦ k.enough.depend y e y_in old e_in sought
-        | inr new ↦ depends_null mesh _ (loop_walk mesh (trees y) e) (of y e y_in e_in (eqb-true y z new) sought)
-      ];
-    };
-    each = k.each;
-    order = k.order;
-    independent = k.independent;
-  }
-    where
-      none : (e : ℕ) → e < edge_count mesh → IsTrue (is_sought limit (place_at mesh lengths trees z e)) →
-          IsNull mesh (loop_walk mesh (trees z) e)
-      none e e_in sought = elim (cases_eq (class_of mesh d (loop_walk mesh (trees z) e)) 0) [
-        | inl zero_is ↦ zero_null z e z_in e_in zero_is
-        | inr some ↦ let (c, has, from_is, edge_is) = h.all e e_in some sought in absurd (omega (arith, has.1))
-      ]
-
-      of : (y e : ℕ) → y < mesh.vertices → e < edge_count mesh → y ≡ z →
-          IsTrue (is_sought limit (place_at mesh lengths trees y e)) → IsNull mesh (loop_walk mesh (trees y) e)
-      of y e y_in e_in at = subst (λ x. IsTrue (is_sought limit (place_at mesh lengths trees x e)) → IsNull mesh (loop_walk mesh (trees x) e))
-          (sym at) (none e e_in)
-
-  -- where loops in order are
-  pub kept_merged : (limit : Option Candidate) (set : ℕ → Bool) (z : ℕ) (kept list next : List Signed) → z < mesh.vertices →
-      Kept limit set kept → AreFoundBy mesh lengths trees d limit z list → Sorted stands_before list →
-      next ≡ independent_of (merge signed_earlier kept list) → Kept limit (with_vertex z set) next
-  kept_merged limit set z kept list next z_in k h order is =
-      let cs = merge signed_earlier kept list in
-      let right : All Right cs = all_merged signed_earlier Right kept list k.each h.each in
-      let sorted : Sorted stands_before cs = merged_sorted kept list (sorted_from_order stands_before kept k.order) order in
-      let members : IsPermutation (map (found_of mesh trees) kept ++ map (found_of mesh trees) list) (map (found_of mesh trees) cs) =
-      subst (λ ks. IsPermutation ks (map (found_of mesh trees) cs)) (map-append (found_of mesh trees) kept list)
-      (IsPermutation-map (found_of mesh trees) (kept ++ list) cs (same_members signed_earlier kept list)) in
-      let grown = (loops_grow_enough mesh lengths trees surface shortest).more (is_sought limit) set z
-      (map (found_of mesh trees) kept) (map (found_of mesh trees) list) (map (found_of mesh trees) cs) (map (found_of mesh trees) next)
-      k.enough z_in (places_found limit z list z_in h) members
-      (order_from_sorted comes_no_later (map (found_of mesh trees) cs) (sorted_places mesh trees cs sorted)) (found_choice cs next right is) in
-      record {
-        enough = grown.0;
-        each = subst (All Right) (sym is) (all_kept Right cs right);
-        order = order_from_sorted stands_before next (subst (Sorted stands_before) (sym is)
-            (sorted_greedy numbers (λ (c : Signed). c.signature) is_nothing Decides-is_nothing stands_before [] cs sorted));
-        independent = subst (λ ks. Independent numbers (map (λ c. c.signature) ks)) (sym is)
-            ((greedy_law numbers is_nothing Decides-is_nothing (λ (c : Signed). c.signature)).independent cs);
-      }
-
-  -- for fewer places and vertices
-  pub kept_fewer : (limit fewer : Option Candidate) (set part : ℕ → Bool) (kept : List Signed) → Kept limit set kept →
-      ((p : Place) → IsTrue (is_sought fewer p) → IsTrue (is_sought limit p)) → ((v : ℕ) → IsTrue (part v) → IsTrue (set v)) →
-      Kept fewer part kept
-  kept_fewer limit fewer set part kept k places vertices = record {
-    enough = (loops_grow_enough mesh lengths trees surface shortest).fewer (is_sought limit) (is_sought fewer) set part
-        (map (found_of mesh trees) kept) k.enough places vertices;
-    each = k.each;
-    order = k.order;
-    independent = k.independent;
-  }
-
   -- base and edge of what was found have 32 bits
   pub found_short : mesh.vertices ≤ 2 ^ 32 → edge_count mesh ≤ 2 ^ 32 → (cs : List Signed) → All Right cs → All IsShort cs
   found_short few_v few_e cs h = λ j c j_in. (let r : Right (get_or cs j c) = h j c j_in in
       let base_in = (least_base_on_way mesh lengths trees surface positive shortest (get_or cs j c).from (get_or cs j c).candidate.edge r.from_in r.edge_in).0 in
       record { base = omega (arith, r.base, base_in, few_v); edge = omega (arith, r.edge_in, few_e) })
-
-  -- a search from one more vertex
-  pub kept_next : (set : ℕ → Bool) (z : ℕ) (old new : Chosen) (found : List Signed) → z < mesh.vertices →
-      mesh.vertices ≤ 2 ^ 32 → edge_count mesh ≤ 2 ^ 32 → Kept (limit_of old) set old.kept →
-      AreFoundBy mesh lengths trees d (limit_of old) z found → IsNext old found new →
-      Kept (limit_of new) (with_vertex z set) new.kept
-  kept_next set z old new found z_in few_v few_e k h (inl (none, same)) =
-      subst (λ (c : Chosen). Kept (limit_of c) (with_vertex z set) c.kept) (sym same)
-      (kept_none (limit_of old) set z old.kept z_in k (subst (AreFoundBy mesh lengths trees d (limit_of old) z) none h))
-  kept_next set z old new found z_in few_v few_e k h (inr m) =
-      let list = m.list in
-      let there = found_permuted (limit_of old) z found list m.same h in
-      let next = independent_of (merge signed_earlier old.kept list) in
-      let order : Sorted stands_before list = sorted_by_number list (found_short few_v few_e list there.each) m.sorted in
-      let grown = kept_merged (limit_of old) set z old.kept list next z_in k there order refl in
-      let more : length old.kept ≤ length next = no_fewer old.kept (merge signed_earlier old.kept list) next k.independent
-      (λ s has. Contains-permutation (old.kept ++ list) (merge signed_earlier old.kept list) s
-      (same_members signed_earlier old.kept list) (Contains-append_left old.kept list s has)) refl in
-      subst (λ (c : Chosen). Kept (limit_of c) (with_vertex z set) c.kept) (sym m.new_is)
-      (kept_fewer (limit_of old) (limit_of (record old { kept = next })) (with_vertex z set) (with_vertex z set) next grown
-      (limit_falls old.width old.kept list next (sorted_from_order stands_before old.kept k.order) more
-      (λ s has. (Contains-append_cases old.kept list s (Contains-permutation (merge signed_earlier old.kept list) (old.kept ++ list) s
-      (IsPermutation-sym (old.kept ++ list) (merge signed_earlier old.kept list) (same_members signed_earlier old.kept list))
-      (of_choice (merge signed_earlier old.kept list) s has)))) there.sooner)
-      (λ v in'. in'))
-
-  -- ---- at the end
-
-  pub classes_are : (cs : List Signed) → AllByRecursion Right cs →
-      map (class_of mesh d) (walks_found (map (found_of mesh trees) cs)) ≡ map (λ c. c.signature) cs
-  classes_are [] h = refl
-  classes_are (c ∷ cs) h =
-      ap (λ n. n ∷ map (class_of mesh d) (walks_found (map (found_of mesh trees) cs))) (sym h.0.signature)
-      ∙ ap (λ ns. c.signature ∷ ns) (classes_are cs h.1)
-
-  pub kept_independent : (kept : List Signed) → All Right kept → Independent numbers (map (λ c. c.signature) kept) →
-      IsIndependent mesh (walks_found (map (found_of mesh trees) kept))
-  kept_independent kept right free =
-      (independent_by_classes mesh d surface split (walks_found (map (found_of mesh trees) kept))
-      (All-from_recursion (IsClosed mesh) (walks_found (map (found_of mesh trees) kept))
-      (all_mapped (IsClosed mesh) (λ k. k.walk) (map (found_of mesh trees) kept)
-      (found_closed mesh lengths trees surface shortest (map (found_of mesh trees) kept) (loops_found kept right))))).1
-      (subst (Independent numbers) (sym (classes_are kept (recursion_from_All Right kept right))) free)
-
-  -- what is kept is enough
-  pub kept_enough : (set : ℕ → Bool) (choice : Chosen) → Kept (limit_of choice) set choice.kept →
-      length choice.kept ≤ choice.width → IsLoopCount mesh choice.width →
-      AreEnough mesh lengths trees set (map (found_of mesh trees) choice.kept)
-  kept_enough set choice k few full = elim (cases_Bool (nat_le choice.width (length choice.kept))) [
-    | inr off ↦ every (limit_none choice.width choice.kept off)
-    | inl on ↦ of on (last_of choice.kept) refl
-  ]
-    where
-      every : limit_of choice ≡ None → AreEnough mesh lengths trees set (map (found_of mesh trees) choice.kept)
-      every none = (loops_grow_enough mesh lengths trees surface shortest).all set (map (found_of mesh trees) choice.kept)
-          ((loops_grow_enough mesh lengths trees surface shortest).fewer (is_sought (limit_of choice)) every_place set set
-          (map (found_of mesh trees) choice.kept) k.enough (λ p sought. all_sought (limit_of choice) p none) (λ v in'. in'))
-
-      of : nat_le choice.width (length choice.kept) ≡ true → (o : Option Candidate) → last_of choice.kept ≡ o →
-          AreEnough mesh lengths trees set (map (found_of mesh trees) choice.kept)
-      of on None e = every (limit_last choice.width choice.kept on ∙ e)
-      of on (Some c) e =
-          let many : choice.width ≤ length choice.kept = leb-true choice.width (length choice.kept) on in
-          let n : length (map (found_of mesh trees) choice.kept) ≡ length choice.kept = length-map choice.kept (found_of mesh trees) in
-          let count : IsLoopCount mesh (length (map (found_of mesh trees) choice.kept)) = omega (arith, n, many, few, full) in
-          short_searches_suffice mesh lengths trees set (place_of c) (map (found_of mesh trees) choice.kept) surface positive shortest
-          (kept_independent choice.kept k.each k.independent) count
-          (All-from_recursion (IsWithin (place_of c)) (map (found_of mesh trees) choice.kept)
-          (all_mapped (IsWithin (place_of c)) (found_of mesh trees) choice.kept
-          (before_last choice.kept c e (sorted_from_order stands_before choice.kept k.order))))
-          (subst (λ o. AreEnoughOf mesh lengths trees (is_sought o) set (map (found_of mesh trees) choice.kept))
-          (limit_last choice.width choice.kept on ∙ e) k.enough)
 
 -- their signatures are as small as there are left edges
 pub found_small : (mesh : Mesh) (lengths : List ℕ) → IsSurface mesh → ArePositive mesh lengths → (s : CotreeTables) (width : ℕ) →

@@ -1,8 +1,7 @@
 -- Loops that searches find, as signed candidates.
 use Rattle.std.specs.Prelude.{ℕ, ◌≡◌, ◌≢◌, ◌<◌, ◌+◌, ◌^◌, ◌==◌, ◌&&◌, ◌||◌, true, false, ◌⊎◌, fold, IsPermutation, not, min, nat_lt, Bool, IsTrue, bit_xor, List, [], ◌∷◌, map, All, Contains, length, slice_index, Option, Some, None, if◌then◌else◌}
 use Rattle.std.specs.List.Sorted.{IsNonDecreasingBy}
-use Rattle.surf_z2.specs.Order.{merge, IsInOrder}
-use Rattle.surf_z2.specs.Space.{numbers, Independent}
+use Rattle.surf_z2.specs.Order.{merge}
 use Rattle.surf_graphs.specs.Cells.{Split, IsSplit}
 use Rattle.surf_graphs.specs.Trees.{Tree}
 use Rattle.surf_surfaces.specs.Mesh.{Mesh}
@@ -13,14 +12,14 @@ use Rattle.surf_surfaces.specs.Homology.{IsNull}
 use Rattle.surf_surfaces.specs.Class.{class_of}
 use Rattle.surf_surfaces.specs.Loop.{loop_walk, loop_length}
 use Rattle.surf_surfaces.specs.Choice.{Trees, AreChosen}
-use Rattle.surf_surfaces.specs.FewBases.{place_at, least_base, Found, AreEnoughOf, IsFirstFound}
+use Rattle.surf_surfaces.specs.FewBases.{place_at, least_base, Found, IsFirstFound}
 use Rattle.surf_cotree.specs.Tables.{CotreeTables}
 use Rattle.surf_near.specs.Near.{NearTables, AreNearTables, is_near}
 use Rattle.surf_near.specs.declared.links.Link.{Link}
 use Rattle.surf_choice.specs.declared.candidate.Candidate.{Candidate}
 use Rattle.surf_choice.specs.declared.candidate.Signed.{Signed}
 use Rattle.surf_choice.specs.Candidates.{Chosen, earlier, signed_earlier, independent_of}
-use Rattle.surf_choice.specs.Places.{place_of, stands_before, order_of, is_sought, limit_of}
+use Rattle.surf_choice.specs.Places.{place_of, order_of, is_sought}
 use Rattle.surf_search.specs.declared.reached.Reached.{Reached}
 use Rattle.surf_search.specs.declared.surface.SignedSurface.{SignedSurface}
 use Rattle.surf_search.specs.Signing.{AreSignatures}
@@ -178,14 +177,6 @@ found_of mesh trees c = record {
   walk = loop_walk mesh (trees c.from) c.candidate.edge;
 }
 
--- independent loops in order, which are enough of those at the vertices of a set that come before a limit
-pub record AreKeptOf (mesh : Mesh) (lengths : List ℕ) (trees : ℕ → Tree) (d : Split) (limit : Option Candidate)
-    (set : ℕ → Bool) (kept : List Signed) : Type 0 where
-  pub enough : AreEnoughOf mesh lengths trees (is_sought limit) set (map (found_of mesh trees) kept)
-  pub each : All (IsFound mesh lengths trees d) kept
-  pub order : IsInOrder stands_before kept
-  pub independent : Independent numbers (map (λ c. c.signature) kept)
-
 -- the choice was made again from what was kept and some loops, which were put into order
 pub record IsMerged (old : Chosen) (found : List Signed) (new : Chosen) : Type 0 where
   pub list : List Signed
@@ -196,12 +187,6 @@ pub record IsMerged (old : Chosen) (found : List Signed) (new : Chosen) : Type 0
 -- so it was, or there are no loops and it is as before
 abbrev pub IsNext : Chosen → List Signed → Chosen → Type 0
 IsNext old found new = ((found ≡ []) × (new ≡ old)) ⊎ IsMerged old found new
-
--- so they are by all trees that show the choice
-abbrev pub AreKeptFrom : Mesh → List ℕ → CotreeTables → List ℕ → Chosen → Type 0
-AreKeptFrom mesh lengths s vertices choice = (trees : ℕ → Trees) → AreChosen mesh lengths trees → (d : Split) →
-    IsSplit (cells_of mesh) d → AreSignatures mesh d s →
-    AreKeptOf mesh lengths (λ x. (trees x).tree) d (limit_of choice) (is_among vertices) choice.kept
 
 -- ---- the first of them
 

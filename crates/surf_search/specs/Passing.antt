@@ -6,16 +6,14 @@ use Rattle.surf_graphs.specs.Trees.{Tree}
 use Rattle.surf_surfaces.specs.Mesh.{Mesh}
 use Rattle.surf_surfaces.specs.Cells.{cells_of}
 use Rattle.surf_surfaces.specs.Choice.{Trees, AreChosen}
-use Rattle.surf_surfaces.specs.Walk.{ArePositive}
-use Rattle.surf_surfaces.specs.FewBases.{with_vertex}
+use Rattle.surf_surfaces.specs.Surface.{edge_count}
+use Rattle.surf_surfaces.specs.Walk.{ArePositive, edge_length}
 use Rattle.surf_surfaces.specs.ShortestTree.{IsShortestTree}
 use Rattle.surf_cotree.specs.Tables.{CotreeTables}
 use Rattle.surf_firsts.specs.Near.{AgreeOff}
 use Rattle.surf_near.specs.Links.{IsShutAt}
 use Rattle.surf_choice.specs.declared.candidate.Candidate.{Candidate}
-use Rattle.surf_choice.specs.Candidates.{Chosen}
-use Rattle.surf_choice.specs.Places.{limit_of}
-use Rattle.surf_search.specs.Found.{SurfaceTables, AreKeptOf, IsFirstOf}
+use Rattle.surf_search.specs.Found.{SurfaceTables, IsFirstOf}
 use Rattle.surf_search.specs.Signing.{AreSignatures}
 
 -- whether a vertex is marked in a table
@@ -33,6 +31,10 @@ pub record AreMarkedNear (mesh : Mesh) (lengths : List ℕ) (base far : ℕ) (ol
 abbrev pub AreShut : Mesh → List ℕ → List Bool → List Bool → Type 0
 AreShut mesh lengths old new = (v : ℕ) → IsTrue (is_marked new v) → IsTrue (is_marked old v) ⊎ IsShutAt mesh v lengths
 
+-- no edge has a lesser length than before
+abbrev pub AreNoShorter : Mesh → List ℕ → List ℕ → Type 0
+AreNoShorter mesh old new = (e : ℕ) → e < edge_count mesh → edge_length old e ≤ edge_length new e
+
 -- a limit that is farther by a sixteenth, as far as a length goes
 abbrev pub widened : Candidate → Candidate
 widened c = record { length = min (c.length + c.length / 16) 18446744073709551615; base = c.base; edge = c.edge }
@@ -42,19 +44,6 @@ abbrev pub spare_of : Option Candidate → Option Candidate → ℕ
 spare_of (Some c) (Some d) = d.length - c.length
 spare_of None wide = 0
 spare_of (Some c) None = 0
-
--- what is kept is enough for the vertices of a set, whichever trees show the choice
-abbrev pub AreKeptIn : Mesh → List ℕ → CotreeTables → (ℕ → Bool) → Chosen → Type 0
-AreKeptIn mesh lengths s set choice = (trees : ℕ → Trees) → AreChosen mesh lengths trees → (d : Split) →
-    IsSplit (cells_of mesh) d → AreSignatures mesh d s →
-    AreKeptOf mesh lengths (λ x. (trees x).tree) d (limit_of choice) set choice.kept
-
--- where what is kept is enough for the vertices that were marked, by lengths from which those of a finder differ at
--- these alone, it is enough for those that are marked now
-abbrev pub StayKept : SurfaceTables → List Bool → List Bool → Chosen → Type 0
-StayKept f old new choice = (lengths : List ℕ) → ArePositive f.mesh lengths →
-    AgreeOff f.mesh lengths f.lengths (is_marked old) → AreKeptIn f.mesh lengths f.signs (is_marked old) choice →
-    AreKeptIn f.mesh lengths f.signs (is_marked new) choice
 
 -- the first of the loops at the vertices of a set, whichever trees show the choice
 abbrev pub IsFirstIn : Mesh → List ℕ → CotreeTables → (ℕ → Bool) → Option Candidate → Type 0
@@ -67,11 +56,6 @@ abbrev pub StaysFirst : SurfaceTables → List Bool → List Bool → Option Can
 StaysFirst f old new first = (lengths : List ℕ) → ArePositive f.mesh lengths →
     AgreeOff f.mesh lengths f.lengths (is_marked old) → IsFirstIn f.mesh lengths f.signs (is_marked old) first →
     IsFirstIn f.mesh lengths f.signs (is_marked new) first
-
--- where what was kept was enough for the vertices of a set, what is kept now is enough for one more
-abbrev pub KeepsWith : SurfaceTables → ℕ → Chosen → Chosen → Type 0
-KeepsWith f base old new = (set : ℕ → Bool) → AreKeptIn f.mesh f.lengths f.signs set old →
-    AreKeptIn f.mesh f.lengths f.signs (with_vertex base set) new
 
 -- a finder has the lengths of another one at all edges that have no marked end
 pub record IsAhead (f scout : SurfaceTables) (marks : List Bool) : Type 0 where

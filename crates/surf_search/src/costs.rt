@@ -1,11 +1,14 @@
-//! What the searches cost that are left: those from the vertices of a cut, or those of a last
-//! round.
-ghost use Rattle.std.specs.Prelude.{◌≡◌, ◌<◌, ◌≤◌, ℕ, false, length, slice_index};
+//! What the searches of a round cost: those from the vertices of a cut, or those by caps.
+ghost use Rattle.std.specs.Prelude.{◌≡◌, ◌<◌, ◌≤◌, ℕ, length, slice_index};
 
-use crate::finder::Finder;
-use std::alloc::Global;
-use surf_base::{NoMemory, VertexId};
-use surf_choice::Choice;
+use surf_choice::Candidate;
+
+/// The distances of all vertices from one of them, in order, and whether all edges are as long.
+#[derive(Clone, Copy)]
+pub(crate) struct Costs<'c> {
+    pub distances: &'c [u64],
+    pub even: bool,
+}
 
 // How many distances, of some in order, are some half of a length at most: a place where that half
 // stands or would stand.
@@ -34,44 +37,24 @@ fn cost_of_round(distances: &[u64], reached: &[u64], caps: &[u64], most: u64) ->
     cost
 }
 
-// Whether the cap of a vertex is greater than how far it was searched.
-fn are_rising(reached: &[u64], caps: &[u64]) -> bool
-    requires count { length caps.now ≡ length reached.now }
-    ensures none { result ≡ false → (v : ℕ) → v < length caps.now →
-        slice_index caps.now v ≤ slice_index reached.now v }
-{
-    for v in 0..caps.len() {
-        if reached[v] < caps[v] {
-            return true;
-        }
-    }
-    false
-}
-
-/// Whether searches from so many vertices of a cut cost less than those of a last round. There
-/// scouts pass over most vertices, so that they may be four times as many. Either answer is right:
-/// only the time that it takes depends on it.
+/// Whether searches from the vertices of a cut cost less than those by caps. There scouts pass over
+/// most vertices, so that they may be four times as many, or twice where all edges are as long.
+/// Either answer is right: only the time that it takes depends on it.
 pub(crate) fn is_cut_cheaper(
-    alloc: Global,
-    finder: &mut Finder<'_>,
-    vertices: usize,
-    caps: &[u64],
+    costs: &Costs<'_>,
+    limit: &Option<Candidate>,
     reached: &[u64],
-    choice: &Choice,
-) -> Result<bool, NoMemory>
-    requires some { 0 < finder.old.mesh.vertices }
-    requires count { length caps.now ≡ length reached.now }
-    ensures same { finder.new ≡ finder.old }
+    cut: &[u64],
+    caps: &[u64],
+) -> bool
+    requires cut { length cut.now ≡ length reached.now }
+    requires caps { length caps.now ≡ length reached.now }
 {
-    if !are_rising(reached, caps) {
-        return Ok(false);
-    }
-    let most = match choice.limit() {
+    let most = match limit {
         Some(last) => last.length,
         None => u64::MAX,
     };
-    let distances = finder.distances(alloc, VertexId::new(0))?;
-    let round = cost_of_round(&distances, reached, caps, most);
-    let cut = count_near(&distances, most).saturating_mul(vertices as u64);
-    Ok(cut < round.saturating_mul(4))
+    let times = if costs.even { 2 } else { 4 };
+    let by_caps = cost_of_round(costs.distances, reached, caps, most).saturating_mul(times);
+    cost_of_round(costs.distances, reached, cut, most) <= by_caps
 }

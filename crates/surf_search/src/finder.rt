@@ -7,7 +7,7 @@ ghost use Rattle.surf_near.specs.Links.{IsShutAt};
 ghost use Rattle.surf_near.specs.Near.{AreNearTables, IsNear};
 ghost use Rattle.surf_search.specs.Walks.{AreWalksOf, AreWrittenTo, IsMeasured};
 ghost use Rattle.surf_search.specs.Found.{surface_of, AreFound, IsFirstAt, plain_edges};
-ghost use Rattle.surf_search.specs.Passing.{is_marked, AreMarkedNear, AreShut};
+ghost use Rattle.surf_search.specs.Passing.{is_marked, AreMarkedNear, AreNoShorter, AreShut};
 ghost use Rattle.surf_search.specs.Places.{AreDistances, radius_of};
 ghost use Rattle.surf_search.specs.Ways.{AreWays};
 
@@ -216,9 +216,11 @@ impl<'a> Finder<'a> {
         ensures shut { IsShutAt self.old.mesh v self.new.lengths }
         ensures off { AgreeOff self.old.mesh self.old.lengths self.new.lengths
             (is_marked marks.new) }
+        ensures no_shorter { AreNoShorter self.old.mesh self.old.lengths self.new.lengths }
         ensures mesh { self.new.mesh ≡ self.old.mesh }
         ensures signs { self.new.signs ≡ self.old.signs }
     {
+        self.links.law_of_links();
         marks[v.index()] = true;
         self.links.bar(v);
     }
@@ -232,6 +234,7 @@ impl<'a> Finder<'a> {
         ensures shut { AreShut self.old.mesh self.new.lengths marks.old marks.new }
         ensures off { AgreeOff self.old.mesh self.old.lengths self.new.lengths
             (is_marked marks.new) }
+        ensures no_shorter { AreNoShorter self.old.mesh self.old.lengths self.new.lengths }
         ensures stay { (v : ℕ) → IsTrue (is_marked marks.old v) → IsTrue (is_marked marks.new v) }
         ensures count { length marks.new ≡ length marks.old }
         ensures mesh { self.new.mesh ≡ self.old.mesh }

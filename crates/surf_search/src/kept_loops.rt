@@ -18,7 +18,7 @@ fn order_of(signed: &Signed) -> u128
 }
 
 // Puts loops into order.
-fn sort_loops(found: &mut [Signed])
+pub(crate) fn sort_loops(found: &mut [Signed])
     ensures same { IsPermutation found.old found.new }
     ensures sorted { IsNonDecreasingBy order_of found.new }
 {

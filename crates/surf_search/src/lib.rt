@@ -13,24 +13,25 @@
 //! from one of its ends, up to the length of the last of those loops: this caps the vertex. Where
 //! one handle is long and many are short, few vertices have great caps. But what is kept after one
 //! search makes caps too great: loops of far handles look long from there. So searches go in
-//! rounds. The first one finds what is no longer than four times the first loop, each further one
-//! what is four times as long, and each sets caps anew by what is kept by then. The last has caps
-//! alone. What a vertex was searched for in one round isn't sought there again.
+//! rounds (`rounds.rt`). The first one finds what is no longer than four times the first loop, each
+//! further one what is four times as long, or as long as the next loop that is kept. After a round
+//! nothing is left to find up to its length, at any vertex, and the next one sets caps anew by what
+//! is kept by then.
 //!
 //! Where all handles are alike caps win nothing. There it may cost less to search from vertices
-//! such that every closed walk that isn't null meets one of them, which is estimated from how many
-//! vertices are within a radius (`costs.rt`). The caller gives these vertices. They are taken in an
-//! order that scatters them, so that short loops of all parts are found soon.
+//! such that every closed walk that isn't null meets one of them. The caller gives these vertices,
+//! and each round takes what costs less, which is estimated from how many vertices are within a
+//! radius (`costs.rt`).
 //!
-//! Before such a search a scout may go from the vertex, somewhat farther than the search must.
-//! Where all loops that it finds are longer than kept ones of which they are sums, by more than a
-//! way there and back, the vertices that are so near are passed over, and there is no other search.
-//! To the scout the ways through vertices that are done with, searched or passed over, are barred:
-//! the edges there are as long as an edge may be. So it finds few loops and long ones, and more is
-//! passed over. It needs no others, since a loop that goes through such a vertex is a sum of loops
-//! there, for which what is kept is enough already (`law_of_near_vertices` of `surf_firsts`). What
-//! is kept comes from searches by the given lengths alone. Where scouts tell nothing they go ever
-//! more seldom.
+//! In a round the greatest caps are first (`round.rt`), those of one cap in an order that scatters
+//! them, so that short loops of all parts are found soon. To each search the ways through vertices
+//! that are done with are barred: the edges there are as long as an edge may be. It needs no
+//! others, since a loop that goes through such a vertex is a sum of loops there, for which what is
+//! kept is enough already (`law_of_barred_searches` of `surf_caps`). A search may go somewhat
+//! farther than it must. Where all loops that it finds are longer than kept ones of which they are
+//! sums, by more than a way there and back, the vertices that are so near are done with too. Loops
+//! that are sums of kept ones up to the length of the round before are no matter to that. Where
+//! searches tell nothing of the vertices near them they go farther ever more seldom.
 //!
 //! Whether a loop is independent of others is told by its signature, a sum over its edges of
 //! signatures that one base gives for all.
@@ -48,6 +49,7 @@ mod kept_loops;
 mod marks;
 mod pace;
 mod reached;
+mod round;
 mod rounds;
 mod scout;
 mod surface;

@@ -3,13 +3,14 @@ ghost use Rattle.std.specs.Prelude.{◌≡◌, ◌<◌, ◌⊎◌, ◌^◌, ℕ,
 ghost use Rattle.std.specs.List.Sorted.{IsNonDecreasingBy};
 ghost use Rattle.surf_firsts.specs.Near.{AgreeOff};
 ghost use Rattle.surf_search.specs.Marks.{AreMarkedIn, bits_backwards};
-ghost use Rattle.surf_search.specs.Passing.{is_marked, AreShut};
+ghost use Rattle.surf_search.specs.Passing.{is_marked, AreNoShorter, AreShut};
 
 use std::alloc::Global;
 use surf_base::{NoMemory, VertexId};
 use surf_near::Links;
 
 /// Marks the vertices of a list, and bars the ways through those that weren't marked.
+#[tactic(auto, using(crate::proofs::Barred::bar_no_shorter))]
 pub(crate) fn mark_all(list: &[VertexId], links: &mut Links<'_>, marks: &mut [bool])
     requires inside { All (λ v. v < links.old.mesh.vertices) list.now }
     requires marks { length marks.old ≡ links.old.mesh.vertices }
@@ -21,10 +22,12 @@ pub(crate) fn mark_all(list: &[VertexId], links: &mut Links<'_>, marks: &mut [bo
     ensures shut { AreShut links.old.mesh links.new.lengths marks.old marks.new }
     ensures off { AgreeOff links.old.mesh links.old.lengths links.new.lengths
         (is_marked marks.new) }
+    ensures no_shorter { AreNoShorter links.old.mesh links.old.lengths links.new.lengths }
     ensures mesh { links.new.mesh ≡ links.old.mesh }
 {
     for v in list {
         if !marks[v.index()] {
+            links.law_of_links();
             marks[v.index()] = true;
             links.bar(*v);
         }

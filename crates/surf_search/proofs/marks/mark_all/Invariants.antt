@@ -1,6 +1,6 @@
 use Rattle.surf_surfaces.proofs.Common.{◌≡◌, ◌⊎◌, ℕ, ◌<◌, Contains, length, IsTrue, slice_index}
 use Rattle.surf_firsts.specs.Near.{AgreeOff}
-use Rattle.surf_search.specs.Passing.{is_marked, AreShut}
+use Rattle.surf_search.specs.Passing.{is_marked, AreNoShorter, AreShut}
 use Rattle.surf_search.proofs.marks.mark_all.Given as goal
 
 abbrev pub invariant-loop-v : goal.invariant-loop-v
@@ -11,5 +11,6 @@ invariant-loop-v l = record {
   count : length l.marks ≡ length l.fn.marks;
   shut : AreShut l.fn.links.mesh l.links.lengths l.fn.marks l.marks;
   off : AgreeOff l.fn.links.mesh l.fn.links.lengths l.links.lengths (is_marked l.marks);
+  no_shorter : AreNoShorter l.fn.links.mesh l.fn.links.lengths l.links.lengths;
   mesh : l.links.mesh ≡ l.fn.links.mesh;
 }

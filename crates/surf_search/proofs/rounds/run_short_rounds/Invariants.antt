@@ -1,11 +1,12 @@
-use Rattle.std.proofs.Common.{◌≡◌, length}
-use Rattle.surf_search.specs.Rounds.{AreKeptUpTo}
+use Rattle.std.proofs.Common.{◌≡◌, ◌<◌, ◌≤◌, ℕ, length}
+use Rattle.surf_search.specs.Found.{surface_of}
+use Rattle.surf_search.specs.Rounds.{AreKeptUpTo, cap_at, in_caps}
 use Rattle.surf_search.proofs.rounds.run_short_rounds.Given as goal
 
 abbrev pub invariant-loop-round : goal.invariant-loop-round
 invariant-loop-round l = record {
-  same : l.finder ≡ l.fn.finder;
   width : l.choice.width ≡ l.fn.choice.width;
   count : length l.reached ≡ length l.fn.reached;
-  kept : AreKeptUpTo l.fn.finder l.reached l.choice;
+  low : (v : ℕ) → v < length l.reached → l.least ≤ cap_at l.reached v;
+  kept : AreKeptUpTo (surface_of l.plan.surface.now) (in_caps l.reached) l.choice;
 }

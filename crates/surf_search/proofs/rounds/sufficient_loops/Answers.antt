@@ -1,19 +1,25 @@
-use Rattle.std.proofs.Common.{◌≡◌, ℕ, List, replicate, ap, ◌∙◌}
-use Rattle.surf_surfaces.proofs.bases.FirstCycleLaws.{shortest_trees}
+use Rattle.std.proofs.Common.{◌≡◌, ℕ, List, replicate, sym, ap, ◌∙◌, subst, arith}
 use Rattle.surf_choice.specs.Candidates.{Chosen}
-use Rattle.surf_search.specs.Rounds.{cap_at}
-use Rattle.surf_search.proofs.Capped.{capped_begun}
+use Rattle.surf_search.specs.Rounds.{AreKeptUpTo, cap_at, in_caps}
+use Rattle.surf_search.specs.Found.{SurfaceTables, surface_of}
 use Rattle.surf_search.proofs.Capping.{zero_caps}
+use Rattle.surf_search.proofs.Marked.{written_back}
+use Rattle.surf_search.proofs.Rounded.{begun_none}
 use Rattle.surf_search.proofs.rounds.sufficient_loops.Goals as goal
 
-pub keep_sufficient-requires-clause-kept : goal.keep_sufficient-requires-clause-kept
-keep_sufficient-requires-clause-kept c = λ trees chosen d split are.
+pub begin-requires-clause-kept : goal.begin-requires-clause-kept
+begin-requires-clause-kept c =
     let f = c.args.finder.now in
-    let surface = c.law_of_finder.ensures.surface in
-    let positive = c.law_of_finder.ensures.positive in
     let n = c.vertices.result in
     let fresh : c.deref_mut.result.now ≡ replicate n 0 =
     c.deref_mut.ensures.value ∙ c.in_ok-reached.ensures.items_if_clones_equal (λ y same. same) in
-    capped_begun f.mesh f.lengths (λ x. (trees x).tree) surface positive (shortest_trees f.mesh f.lengths surface positive trees chosen)
-    d split c.in_ok-choice.choice c.deref_mut.result.now (ap (λ (k : Chosen). k.kept) c.in_ok-choice.ensures)
-    (λ v. ap (λ (xs : List ℕ). cap_at xs v) fresh ∙ zero_caps n v)
+    begun_none f c.deref_mut.result.now c.in_ok-choice.choice (ap (λ (k : Chosen). k.kept) c.in_ok-choice.ensures)
+    (λ v. ap (λ (xs : List ℕ). cap_at xs v) fresh ∙ zero_caps n v) c.law_of_finder.ensures.surface c.law_of_finder.ensures.positive
+
+pub run_rounds-requires-clause-kept : goal.run_rounds-requires-clause-kept
+run_rounds-requires-clause-kept c =
+    let new = c.begin.new.reached in
+    let is : c.deref_mut-2.result.now ≡ new =
+    c.deref_mut-2.ensures.value ∙ written_back new _ _ (omega (arith, c.begin.ensures.count, c.deref_mut.ensures.len)) in
+    subst (λ (xs : List ℕ). AreKeptUpTo (surface_of c.args.surface.now) (in_caps xs) c.begin.new.choice) (sym is)
+    (subst (λ (g : SurfaceTables). AreKeptUpTo g (in_caps new) c.begin.new.choice) c.requires.finder c.in_ok-begin.ensures.kept)

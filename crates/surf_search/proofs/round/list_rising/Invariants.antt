@@ -1,0 +1,9 @@
+use Rattle.std.proofs.Common.{◌<◌, All, length}
+use Rattle.surf_search.specs.Rounds.{AreRising}
+use Rattle.surf_search.proofs.round.list_rising.Given as goal
+
+abbrev pub invariant-loop-v : goal.invariant-loop-v
+invariant-loop-v l = record {
+  inside : All (λ v. v < length l.caps) l.list.items;
+  rising : AreRising l.caps l.reached l.v l.list.items;
+}

@@ -1,0 +1,39 @@
+use Rattle.surf_surfaces.proofs.Common.{◌≡◌, ◌<◌, ◌≤◌, ℕ, All, Bool, false, List, replicate, sym, ap, ◌∙◌, subst, inl, inr, arith, All-contains, on_ok_weaker, IsTrue}
+use Rattle.std.specs.List.Sorted.{IsNonDecreasingBy}
+use Rattle.surf_lengths.proofs.Positive.{lengths_positive}
+use Rattle.surf_search.specs.Found.{surface_of}
+use Rattle.surf_search.specs.Passing.{is_marked}
+use Rattle.surf_search.specs.Rounds.{cap_at, fall_order}
+use Rattle.surf_search.proofs.PassedOver.{none_marked}
+use Rattle.surf_search.proofs.Rounded.{round_begun}
+use Rattle.surf_search.proofs.Signed.{signs_long}
+use Rattle.surf_search.proofs.round.search_rising.Goals as goal
+
+pub make-requires-clause-signatures : goal.make-requires-clause-signatures
+make-requires-clause-signatures c =
+    signs_long c.args.surface.now.mesh.now c.args.surface.now.signatures.now c.args.choice.now.width c.requires.signed
+
+pub search_each-requires-clause-falling : goal.search_each-requires-clause-falling
+search_each-requires-clause-falling c =
+    subst (λ (xs : List ℕ). IsNonDecreasingBy (fall_order c.args.caps.now) xs) (sym c.deref.ensures.value) c.in_ok-vertices.ensures.falling
+
+pub search_each-requires-clause-kept : goal.search_each-requires-clause-kept
+search_each-requires-clause-kept c =
+    let f = surface_of c.args.surface.now in
+    let is = c.in_ok-vec.ensures.items_if_clones_equal (λ y same. same) in
+    round_begun f c.args.reached.now c.args.choice.now c.in_ok-vec.field-0.items
+    (λ v on. none_marked _ v (subst (λ (ms : List Bool). IsTrue (is_marked ms v)) is on))
+    c.law_of_surface.ensures.surface (lengths_positive f.mesh f.lengths c.law_of_lengths.ensures.lengths c.requires.lengths) c.requires.kept
+
+pub returns-clause-each : goal.returns-clause-each
+returns-clause-each c =
+    let caps = c.args.caps.now in
+    let list = c.in_ok-vertices.vertices.items in
+    let new = c.search_each.new.reached in
+    on_ok_weaker c.search_each.result
+    (λ each. (let all : All (λ v. cap_at caps v ≤ cap_at new v) list =
+    subst (λ (xs : List ℕ). All (λ v. cap_at caps v ≤ cap_at new v) xs) c.deref.ensures.value each in
+    λ v l. elim (c.in_ok-vertices.ensures.rising v l) [
+      | inl low ↦ (let x = c.search_each.ensures.more v in omega (arith, low, x))
+      | inr has ↦ All-contains (λ u. cap_at caps u ≤ cap_at new u) list v all has
+    ])) c.search_each.ensures.each
