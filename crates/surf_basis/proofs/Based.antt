@@ -1,26 +1,10 @@
 -- The loops that a search finds at a base, and those of them that are chosen.
-use Rattle.surf_surfaces.proofs.Common.{◌≡◌, ℕ, ◌+◌, ◌^◌, ◌<◌, ◌≤◌, ◌++◌, Bool, true, false, not, cond, List, [], ◌∷◌, length, get_or, map, filter, take, All, Contains, IsPermutation, Some, ◌⊎◌, refl, sym, ap, ◌∙◌, subst, arith, inl, inr, IsTrue, ◌==◌, AllByRecursion, cases_Bool, false≢true, le-leb, or_cases, eqb-true, nat_tests, length-map, get_or-map, take_more, map-append, merge, all_filtered, Split, IsSplit, Tree, Mesh, edge_count, IsSurface, ArePositive, IsNull, cells_of, class_of, AreShortestTrees, loop_walk, loop_length, is_left, Trees, AreChosen, Loop, comes_before, loop_at, loops_at, place_at, comes_sooner, least_base, IsNonDecreasingBy}
-use Rattle.std.proofs.lemmas.List.Elements.{recursion_from_All, All-from_recursion, All-contains, Contains-get_or, filter_more}
-use Rattle.std.proofs.lemmas.List.Sorted.{Contains-permutation, All-permutation, IsPermutation-refl}
-use Rattle.surf_surfaces.proofs.bases.CoveredLaws.{contains-map}
-use Rattle.surf_surfaces.proofs.bases.ChoiceExists.{choice_exists}
-use Rattle.surf_surfaces.proofs.bases.FewBasesLaws.{least_base_on_way}
-use Rattle.surf_surfaces.proofs.bases.FirstCycleLaws.{shortest_trees}
-use Rattle.surf_surfaces.proofs.classes.LeastLaws.{all_each, all_mapped}
-use Rattle.surf_surfaces.proofs.bases.LoopsAtLaws.{IsLoopAt, loops_each}
+use Rattle.surf_search.proofs.Common.{◌≡◌, ℕ, ◌+◌, ◌^◌, ◌<◌, ◌≤◌, ◌++◌, Bool, true, false, not, cond, List, [], ◌∷◌, length, get_or, map, filter, take, All, Contains, IsPermutation, Some, ◌⊎◌, refl, sym, ap, ◌∙◌, subst, arith, inl, inr, IsTrue, ◌==◌, AllByRecursion, cases_Bool, false≢true, le-leb, or_cases, eqb-true, nat_tests, length-map, get_or-map, take_more, map-append, merge, all_filtered, Split, IsSplit, Tree, Mesh, edge_count, IsSurface, ArePositive, IsNull, cells_of, class_of, AreShortestTrees, loop_walk, loop_length, Trees, AreChosen, Loop, comes_before, loop_at, loops_at, place_at, comes_sooner, least_base, IsNonDecreasingBy, recursion_from_All, All-from_recursion, All-contains, Contains-get_or, filter_more, Contains-permutation, All-permutation, contains-map, choice_exists, least_base_on_way, shortest_trees, all_each, all_mapped, IsLoopAt, loops_each, CotreeTables, Candidate, Signed, Chosen, signed_earlier, independent_of, place_of, is_sought, order_of, all_kept, has_length, AreSigned, IsFound, AreFoundBy, AreFound, IsNext}
+use Rattle.surf_basis.proofs.Common.{based_at, IsOffered, AreOffered, loop_in, loops_in, IsSigned}
+use Rattle.surf_surfaces.proofs.Common.{is_left}
+use Rattle.std.proofs.lemmas.List.Sorted.{IsPermutation-refl}
 use Rattle.surf_firsts.specs.Firsts.{is_no_later, is_up_to, loops_up_to, IsLoopUpTo, AreLoopsUpTo}
 use Rattle.surf_firsts.proofs.FirstLoops.{each_in, filter_twice, first_loops}
-use Rattle.surf_cotree.specs.Tables.{CotreeTables}
-use Rattle.surf_choice.specs.declared.candidate.Candidate.{Candidate}
-use Rattle.surf_choice.specs.declared.candidate.Signed.{Signed}
-use Rattle.surf_choice.specs.Candidates.{Chosen, signed_earlier, independent_of}
-use Rattle.surf_choice.specs.Places.{place_of, is_sought, order_of}
-use Rattle.surf_choice.proofs.Sifted.{all_kept}
-use Rattle.surf_basis.specs.Based.{based_at, IsOffered, AreOffered}
-use Rattle.surf_basis.specs.Candidates.{loop_in, loops_in, IsSigned}
-use Rattle.surf_search.specs.Places.{has_length}
-use Rattle.surf_search.specs.Signing.{AreSigned}
-use Rattle.surf_search.specs.Found.{IsFound, AreFoundBy, AreFound, IsNext}
 use Rattle.surf_basis.proofs.Kept.{kept_after}
 use Rattle.surf_search.proofs.Signed.{class_small}
 use Rattle.surf_search.proofs.Searched.{zero_null}

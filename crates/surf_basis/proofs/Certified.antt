@@ -1,22 +1,13 @@
 -- The parts of the certificate of the basis.
-use Rattle.surf_surfaces.proofs.Common.{◌≡◌, ℕ, ◌+◌, ◌<◌, ◌++◌, ◌∷◌, [], List, map, refl, sym, ap, ◌∙◌, subst, Mesh, ends, IsSurface, ArePositive, Trees, AreChosenAt, Loop, walks}
-use Rattle.surf_surfaces.proofs.bases.ChoiceExists.{choice_exists, heaviest_exists}
-use Rattle.surf_surfaces.proofs.classes.ClassLaws.{some_vertex}
-use Rattle.surf_surfaces.proofs.walks.ShortestTreeLaws.{shortest_is_tree}
+use Rattle.surf_search.proofs.Common.{◌≡◌, ℕ, ◌+◌, ◌<◌, ◌++◌, ◌∷◌, [], List, map, refl, sym, ap, ◌∙◌, subst, Mesh, ends, IsSurface, ArePositive, Trees, AreChosenAt, Loop, walks, choice_exists, heaviest_exists, some_vertex, shortest_is_tree, cotree_of}
+use Rattle.surf_basis.proofs.Common.{rows_for, dual_rows_of, chosen_cert, basis_cert_of, TreeTables, tree_of, LoopTables, trees_of, IsGreedy, listed_more, cert_shown, AreTreeRowsBelow, AreTreeRows, IsTheCert, IsTheBasis}
 use Rattle.surf_validity.specs.Rows.{TreeRows, DualRows, LoopCert, BasisCert}
-use Rattle.surf_validity.specs.Chosen.{rows_for, dual_rows_of, chosen_cert, basis_cert_of}
 use Rattle.surf_validity.specs.Bases.{IsValidBasis}
 use Rattle.surf_validity.proofs.OneCert.{chosen_certs_are_one}
 use Rattle.surf_validity.proofs.ChosenBases.{chosen_bases_are_valid}
 use Rattle.surf_records.specs.Fits.{BasisFits}
 use Rattle.surf_records.proofs.ChosenFits.{AreNumbers, chosen_basis_fits}
-use Rattle.surf_tree.specs.Tables.{TreeTables, tree_of}
 use Rattle.surf_tree.specs.Grown.{IsGrown as IsTreeGrown}
-use Rattle.surf_cotree.specs.Tables.{cotree_of}
-use Rattle.surf_loops.specs.Loops.{LoopTables, trees_of, IsGreedy}
-use Rattle.surf_loops.proofs.Rows.{listed_more, cert_shown}
-use Rattle.surf_basis.specs.Certs.{AreTreeRowsBelow, AreTreeRows, IsTheCert}
-use Rattle.surf_basis.specs.Cycles.{IsTheBasis}
 
 module _ (mesh : Mesh) (lengths : List ℕ) (surface : IsSurface mesh) (positive : ArePositive mesh lengths) where
   -- the rows of a grown tree are those of each tree that is chosen at its base

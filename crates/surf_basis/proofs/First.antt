@@ -1,16 +1,7 @@
 -- The first candidate, base by base.
-use Rattle.surf_surfaces.proofs.Common.{◌≡◌, ℕ, ◌<◌, ◌+◌, ◌↔◌, List, [], ◌∷◌, length, map, Option, Some, None, refl, sym, ap, ◌∙◌, subst, arith, inl, inr, AllByRecursion, option_map, IfSome, cases_lt, Mesh, face_count, edge_count, IsSurface, ArePositive, IsLoopCount, Trees, AreChosen, Loop, loops_at, candidates}
-use Rattle.surf_surfaces.proofs.classes.ClassLaws.{some_vertex}
-use Rattle.surf_surfaces.proofs.bases.ChoiceExists.{choice_exists}
-use Rattle.surf_surfaces.proofs.bases.FirstCycleLaws.{first_is_shortest, candidates_below_two, simple_cycles_separate}
-use Rattle.surf_surfaces.proofs.bases.LoopsAtLaws.{IsLoopAt, loops_are_least}
-use Rattle.surf_surfaces.proofs.bases.CandidateLaws.{IsLoopBelow, below_each}
-use Rattle.surf_loops.specs.Loops.{LoopTables, loop_of as head_loop, IsGreedy}
-use Rattle.surf_loops.specs.declared.head.LoopHead.{LoopHead}
-use Rattle.surf_choice.specs.declared.candidate.Candidate.{Candidate}
-use Rattle.surf_basis.specs.declared.cycle.Cycle.{Cycle}
-use Rattle.surf_basis.specs.Candidates.{candidate_of, first_head, loop_in, IsInside, IsCycleOf}
-use Rattle.surf_basis.specs.Cycles.{first_of, as_loop, IsFirstCandidate, IsShortestCycle, AllSeparate}
+use Rattle.surf_search.proofs.Common.{◌≡◌, ℕ, ◌<◌, ◌+◌, ◌↔◌, List, [], ◌∷◌, length, map, Option, Some, None, refl, sym, ap, ◌∙◌, subst, arith, inl, inr, AllByRecursion, option_map, IfSome, cases_lt, Mesh, face_count, edge_count, IsSurface, ArePositive, IsLoopCount, Trees, AreChosen, Loop, loops_at, candidates, some_vertex, choice_exists, first_is_shortest, candidates_below_two, simple_cycles_separate, IsLoopAt, loops_are_least, IsLoopBelow, below_each, Candidate}
+use Rattle.surf_basis.proofs.Common.{LoopTables, IsGreedy, LoopHead, Cycle, candidate_of, first_head, loop_in, IsInside, IsCycleOf, first_of, as_loop, IsFirstCandidate, IsShortestCycle, AllSeparate}
+use Rattle.surf_loops.specs.Loops.{loop_of as head_loop}
 use Rattle.surf_basis.proofs.Looped.{heads_chosen, each_head, head_in, none_on_sphere}
 
 -- a list with its first loop

@@ -1,23 +1,7 @@
 -- What is kept base by base is the basis that is chosen.
-use Rattle.surf_surfaces.proofs.Common.{◌≡◌, ℕ, zero, suc, ◌<◌, ◌≤◌, ◌-◌, Bool, true, false, cond, List, [], ◌∷◌, ◌++◌, ◌+◌, length, filter, All, refl, sym, ap, ◌∙◌, subst, arith, inl, inr, slice_index, AllByRecursion, cases_lt, recursion_from_All, numbers, is_nothing, order_from_sorted, Decides-is_nothing, Split, IsSplit, Mesh, IsSurface, ArePositive, cells_of, class_of, Trees, AreChosen, Loop, comes_before, loops_at, candidates, IsChosenBasis, greedy, greedy_after, spans, two_step_law, AreBases}
-use Rattle.surf_z2.specs.Order.{merge, merge_from}
-use Rattle.surf_z2.proofs.Passing.{greedy_filtered}
-use Rattle.surf_surfaces.proofs.classes.LeastLaws.{all_each}
-use Rattle.surf_surfaces.proofs.bases.GreedyChoiceLaws.{greedy_is_choice}
-use Rattle.surf_surfaces.proofs.bases.CoveredLaws.{below_closed}
-use Rattle.surf_surfaces.proofs.bases.LoopsAtLaws.{IsLoopAt, comes_before-trans, loops_each}
-use Rattle.surf_choice.specs.declared.candidate.Signed.{Signed}
-use Rattle.surf_choice.specs.Candidates.{signed_earlier, independent_of}
-use Rattle.surf_choice.proofs.Sifted.{all_merged, all_kept}
-use Rattle.surf_basis.specs.declared.cycle.Cycle.{Cycle}
-use Rattle.surf_basis.specs.Based.{IsOffered}
-use Rattle.surf_basis.specs.Candidates.{loop_in, loops_in, IsSigned, IsCycleOf, AreCyclesOf, cycles_with}
-use Rattle.surf_search.specs.Walks.{AreWalksOf}
-use Rattle.surf_basis.specs.Cycles.{as_loop, as_loops}
-use Rattle.surf_search.specs.Places.{HavePlacesOfBasis}
-use Rattle.surf_basis.specs.Kept.{placed_below, AreKept}
-use Rattle.surf_basis.specs.Kept.{HasBases}
-use Rattle.surf_search.specs.Places.{lengths_at, has_length}
+use Rattle.surf_search.proofs.Common.{◌≡◌, ℕ, zero, suc, ◌<◌, ◌≤◌, ◌-◌, Bool, true, false, cond, List, [], ◌∷◌, ◌++◌, ◌+◌, length, filter, All, refl, sym, ap, ◌∙◌, subst, arith, inl, inr, slice_index, AllByRecursion, cases_lt, recursion_from_All, numbers, is_nothing, order_from_sorted, Decides-is_nothing, Split, IsSplit, Mesh, IsSurface, ArePositive, cells_of, class_of, Trees, AreChosen, Loop, comes_before, loops_at, candidates, IsChosenBasis, greedy, greedy_after, spans, two_step_law, AreBases, merge_from, all_each, greedy_is_choice, below_closed, IsLoopAt, comes_before-trans, loops_each, Signed, signed_earlier, independent_of, all_merged, all_kept, AreWalksOf, HavePlacesOfBasis, lengths_at, has_length}
+use Rattle.surf_basis.proofs.Common.{greedy_filtered, Cycle, IsOffered, loop_in, loops_in, IsSigned, IsCycleOf, AreCyclesOf, cycles_with, as_loop, as_loops, placed_below, AreKept, HasBases}
+use Rattle.surf_z2.specs.Order.{merge}
 use Rattle.surf_basis.proofs.Places.{is_placed_loop, no_lengths, placed_more, placed_past, placed-sorted}
 
 -- merged candidates as loops

@@ -1,11 +1,8 @@
 -- The first cycle of a basis that is chosen is the first candidate.
-use Rattle.surf_surfaces.proofs.Common.{◌≡◌, ℕ, Bool, true, false, List, [], ◌∷◌, Some, refl, sym, ap, ◌∙◌, subst, arith, option_map, chosen, xor-false, Mesh, IsSurface, parity, ArePositive, IsBoundary, IsNull, total_parity}
-use Rattle.std.specs.Prelude.{MatchBool, slice_index_or}
+use Rattle.surf_search.proofs.Common.{◌≡◌, ℕ, Bool, true, false, List, [], ◌∷◌, Some, refl, sym, ap, ◌∙◌, subst, arith, option_map, chosen, xor-false, Mesh, IsSurface, parity, ArePositive, IsBoundary, IsNull, total_parity, MatchBool, slice_index_or, first_is_shortest}
+use Rattle.surf_basis.proofs.Common.{Cycle, first_of, as_loop, as_loops, IsTheBasis, IsFirstCandidate}
 use Rattle.surf_surfaces.specs.Choice.{Trees, AreChosen, Loop, candidates, DependsOn, DependsAt, IsGreedyChoice}
 use Rattle.surf_surfaces.proofs.walks.CycleLaws.{null_cycles_separate}
-use Rattle.surf_surfaces.proofs.bases.FirstCycleLaws.{first_is_shortest}
-use Rattle.surf_basis.specs.declared.cycle.Cycle.{Cycle}
-use Rattle.surf_basis.specs.Cycles.{first_of, as_loop, as_loops, IsTheBasis, IsFirstCandidate}
 
 -- a walk that depends on no other is null
 alone_null : (mesh : Mesh) (walk : List ℕ) (choice : List Bool) →

@@ -1,3 +1,4 @@
+pub mod Common
 pub mod Based
 pub mod Certified
 pub mod Ended

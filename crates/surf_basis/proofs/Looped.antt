@@ -1,13 +1,8 @@
 -- The loops of a desk at a base, as loops of the choice.
-use Rattle.surf_surfaces.proofs.Common.{◌≡◌, ℕ, ◌<◌, ◌+◌, true, List, [], ◌∷◌, length, map, Contains, refl, sym, ap, ◌∙◌, subst, arith, AllByRecursion, length-map, get_or-map, All-from_recursion, All-contains, Contains-permutation, Mesh, edge_count, face_count, IsSurface, ArePositive, IsLoopCount, loop_walk, Trees, AreChosenAt, AreChosen, Loop, comes_before, loop_at, loops_at, candidates, IsGreedyChoice, IsChosenBasis, sorted-permutes}
-use Rattle.surf_surfaces.specs.Cotree.{is_left, left_edges}
+use Rattle.surf_search.proofs.Common.{◌≡◌, ℕ, ◌<◌, ◌+◌, true, List, [], ◌∷◌, length, map, Contains, refl, sym, ap, ◌∙◌, subst, arith, AllByRecursion, length-map, get_or-map, All-from_recursion, All-contains, Contains-permutation, Mesh, edge_count, face_count, IsSurface, ArePositive, IsLoopCount, loop_walk, Trees, AreChosenAt, AreChosen, Loop, comes_before, loop_at, loops_at, candidates, IsGreedyChoice, IsChosenBasis, sorted-permutes, is_left, left_edges, IsLoopAt, loops_each, candidates_below_two}
+use Rattle.surf_basis.proofs.Common.{LoopTables, trees_of, loop_of, IsGreedy, LoopHead, candidate_of, loop_in}
 use Rattle.surf_surfaces.proofs.classes.CotreeLaws.{passing_found}
-use Rattle.surf_surfaces.proofs.bases.LoopsAtLaws.{IsLoopAt, loops_each}
 use Rattle.surf_surfaces.proofs.bases.LoopsOne.{loops_are_one}
-use Rattle.surf_surfaces.proofs.bases.FirstCycleLaws.{candidates_below_two}
-use Rattle.surf_loops.specs.Loops.{LoopTables, trees_of, loop_of, IsGreedy}
-use Rattle.surf_loops.specs.declared.head.LoopHead.{LoopHead}
-use Rattle.surf_basis.specs.Candidates.{candidate_of, loop_in}
 
 -- the loop of a left edge is the same through all trees that are chosen at the base
 pub loop_is_one : (mesh : Mesh) (lengths : List ℕ) (base : ℕ) (a b : Trees) → IsSurface mesh → ArePositive mesh lengths →

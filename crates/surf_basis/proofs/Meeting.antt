@@ -1,15 +1,8 @@
 -- Lists of vertices that every closed walk meets which isn't null.
-use Rattle.surf_surfaces.proofs.Common.{ℕ, List, sym, ◌∙◌, inl, inr, Mesh, ends, IsSurface, MeetsAll}
+use Rattle.surf_search.proofs.Common.{ℕ, List, sym, ◌∙◌, inl, inr, Mesh, ends, IsSurface, MeetsAll, CotreeTables, cotree_of, is_among, AreSigned}
+use Rattle.surf_basis.proofs.Common.{tree_of, LoopTables, AreCutVertices, HasSignedEnds, IsDividedBy}
 use Rattle.surf_surfaces.proofs.walks.SignedEndsLaws.{signed_ends_meet_all}
 use Rattle.surf_opening.proofs.cuts.OffTheCutMarked.{walks_are_null_or_meet_marked}
-use Rattle.surf_tree.specs.Tables.{tree_of}
-use Rattle.surf_cotree.specs.Tables.{CotreeTables, cotree_of}
-use Rattle.surf_loops.specs.Loops.{LoopTables}
-use Rattle.surf_basis.specs.Cut.{AreCutVertices}
-use Rattle.surf_search.specs.Found.{is_among}
-use Rattle.surf_basis.specs.Ends.{HasSignedEnds}
-use Rattle.surf_search.specs.Signing.{AreSigned}
-use Rattle.surf_basis.specs.Cut.{IsDividedBy}
 use Rattle.surf_search.proofs.Climbed.{at_edge}
 use Rattle.surf_search.proofs.Searched.{among_contained}
 

@@ -1,18 +1,8 @@
 -- The place of the first candidate.
-use Rattle.surf_surfaces.proofs.Common.{◌≡◌, ℕ, ◌<◌, ◌^◌, List, [], ◌∷◌, length, All, Option, Some, None, refl, sym, ap, ◌∙◌, subst, arith, left_edges, Mesh, edge_count, IsSurface, ArePositive, IsNull, cells_of, class_of, loop_walk, Trees, AreChosen, Loop, candidates, loops_at}
+use Rattle.surf_search.proofs.Common.{◌≡◌, ℕ, ◌<◌, ◌^◌, List, [], ◌∷◌, length, All, Option, Some, None, refl, sym, ap, ◌∙◌, subst, arith, Mesh, edge_count, IsSurface, ArePositive, IsNull, cells_of, class_of, loop_walk, Trees, AreChosen, Loop, candidates, loops_at, basis_is_one, choice_exists, least_base_on_way, few_bases_suffice, shortest_trees, first_is_at_least_base, CotreeTables, Candidate, place_of, AreSigned, is_among, IsFirstOf, IsFirstAmong}
+use Rattle.surf_basis.proofs.Common.{first_of, IsFirstPlace}
+use Rattle.surf_surfaces.proofs.Common.{left_edges}
 use Rattle.surf_surfaces.specs.FewBases.{Place, place_at, AreEnough, HasFound, IsFirstFound, MeetsAll}
-use Rattle.surf_surfaces.proofs.bases.BasisLaws.{basis_is_one}
-use Rattle.surf_surfaces.proofs.bases.ChoiceExists.{choice_exists}
-use Rattle.surf_surfaces.proofs.bases.FewBasesLaws.{least_base_on_way, few_bases_suffice}
-use Rattle.surf_surfaces.proofs.bases.FirstCycleLaws.{shortest_trees}
-use Rattle.surf_surfaces.proofs.bases.FirstFoundLaws.{first_is_at_least_base}
-use Rattle.surf_cotree.specs.Tables.{CotreeTables}
-use Rattle.surf_choice.specs.declared.candidate.Candidate.{Candidate}
-use Rattle.surf_choice.specs.Places.{place_of}
-use Rattle.surf_basis.specs.Cycles.{first_of}
-use Rattle.surf_search.specs.Signing.{AreSigned}
-use Rattle.surf_search.specs.Found.{is_among, IsFirstOf, IsFirstAmong}
-use Rattle.surf_basis.specs.Candidates.{IsFirstPlace}
 use Rattle.surf_basis.proofs.First.{no_first}
 use Rattle.surf_basis.proofs.Leading.{first_kept}
 use Rattle.surf_search.proofs.Signed.{class_small}

@@ -1,20 +1,6 @@
 -- What is known when all bases were gone through.
-use Rattle.surf_surfaces.proofs.Common.{◌≡◌, ℕ, ◌<◌, List, [], length, get_or, map, All, refl, sym, ap, ◌∙◌, subst, arith, range_with_len, IsSplit, Tree, Mesh, edge_count, ends, IsSurface, ArePositive, cells_of, IsLoopCount, loop_length, IsShortestTree, Loop, IsChosenBasis, edge_signature, LeastSimpleBasis}
-use Rattle.surf_surfaces.proofs.bases.BasisLaws.{basis_is_least}
-use Rattle.surf_surfaces.proofs.bases.ChoiceExists.{choice_exists}
-use Rattle.surf_surfaces.proofs.walks.ShortestTreeLaws.{shortest_trees_are_one}
-use Rattle.surf_surfaces.proofs.meshes.CellLaws.{ends_in}
-use Rattle.surf_cotree.specs.Tables.{CotreeTables, split_with}
-use Rattle.surf_loops.specs.Loops.{LoopTables, IsGreedy}
-use Rattle.surf_choice.specs.declared.candidate.Signed.{Signed}
-use Rattle.surf_basis.specs.declared.cycle.Cycle.{Cycle}
-use Rattle.surf_search.specs.Walks.{IsMeasured}
-use Rattle.surf_basis.specs.Candidates.{AreCyclesOf}
-use Rattle.surf_search.specs.Places.{HavePlacesOfBasis}
-use Rattle.surf_basis.specs.Kept.{AreKeptOver}
-use Rattle.surf_basis.specs.Kept.{HasBases}
-use Rattle.surf_basis.specs.Cycles.{as_loops, IsTheBasis}
-use Rattle.surf_search.specs.Signing.{AreSigned}
+use Rattle.surf_search.proofs.Common.{◌≡◌, ℕ, ◌<◌, List, [], length, get_or, map, All, refl, sym, ap, ◌∙◌, subst, arith, range_with_len, IsSplit, Tree, Mesh, edge_count, ends, IsSurface, ArePositive, cells_of, IsLoopCount, loop_length, IsShortestTree, Loop, IsChosenBasis, edge_signature, LeastSimpleBasis, basis_is_least, choice_exists, shortest_trees_are_one, ends_in, CotreeTables, split_with, Signed, IsMeasured, HavePlacesOfBasis, AreSigned}
+use Rattle.surf_basis.proofs.Common.{LoopTables, IsGreedy, Cycle, AreCyclesOf, AreKeptOver, HasBases, as_loops, IsTheBasis}
 use Rattle.surf_basis.proofs.Looped.{empty_basis}
 use Rattle.surf_basis.proofs.Kept.{cycles_basis}
 

@@ -1,15 +1,9 @@
 -- Lines that are passed over, and line ends in their place.
-use Rattle.std.proofs.Common.{◌≡◌, ◌<◌, ◌≤◌, ◌+◌, ◌-◌, ◌++◌, ◌==◌, true, false, ℕ, zero, suc, List, [], ◌∷◌, length, take, drop, replicate, min, refl, sym, ◌∙◌, ap, arith, inl, inr}
-use Rattle.std.specs.List.{slice_split, before_first, position_or_len, copy_within}
-use Rattle.std.proofs.lemmas.Bool.{cases_lt}
-use Rattle.std.proofs.lemmas.List.{drop-drop, drop_all, take_all, take_rest, take-append-le, append-nil, length-append, length-replicate, length-drop}
+use Rattle.surf_cert.proofs.Common.{◌≡◌, ◌<◌, ◌≤◌, ◌+◌, ◌-◌, ◌++◌, ◌==◌, true, false, ℕ, zero, suc, List, [], ◌∷◌, length, take, drop, replicate, min, refl, sym, ◌∙◌, ap, arith, inl, inr, slice_split, before_first, position_or_len, copy_within, cases_lt, drop-drop, drop_all, take_all, take_rest, take-append-le, append-nil, length-append, length-replicate, length-drop, min-eq_left, min-eq_right, TextLine, is_line_end, tokens_of, trimmed, uncommented, onto_lines, numbered_from, line_empty, line_there}
 use Rattle.std.proofs.lemmas.List.Edits.{take-paste}
 use Rattle.std.proofs.lemmas.Slice.{drop-append-drop}
 use Rattle.std.proofs.lemmas.List.Splits.{slice_split_first}
-use Rattle.std.proofs.Math.Nat.{min-eq_left, min-eq_right}
-use Rattle.surf_text.specs.Text.{TextLine, is_line_end, tokens_of, trimmed, uncommented, onto_lines, numbered_from}
 use Rattle.surf_text.proofs.Cuts.{whole_part}
-use Rattle.surf_text.proofs.Words.{line_empty, line_there}
 
 -- the lines of a text, the first of all numbered n
 abbrev pub from_line : ℕ → List ℕ → List TextLine

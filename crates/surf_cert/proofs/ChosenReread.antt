@@ -1,11 +1,10 @@
 -- What is written of the certificates of the choice is read again as these, and they are valid.
-use Rattle.surf_surfaces.proofs.Common.{ℕ, List, Mesh, IsSurface, ArePositive, Trees, Loop, AreChosenAt, AreChosen, IsChosenBasis}
+use Rattle.surf_cert.proofs.Common.{ℕ, List, Mesh, IsSurface, ArePositive, Trees, Loop, AreChosenAt, AreChosen, IsChosenBasis, RereadsLoops, RereadsBasis}
 use Rattle.surf_validity.specs.Valid.{IsValidLoops}
 use Rattle.surf_validity.specs.Bases.{IsValidBasis}
 use Rattle.surf_validity.specs.Chosen.{chosen_cert, basis_cert_of}
 use Rattle.surf_validity.proofs.ChosenLaws.{chosen_loops_are_valid}
 use Rattle.surf_validity.proofs.ChosenBases.{chosen_bases_are_valid}
-use Rattle.surf_cert.specs.Written.{RereadsLoops, RereadsBasis}
 use Rattle.surf_cert.proofs.Reread.{loops_again, basis_again}
 use Rattle.surf_records.proofs.ChosenFits.{AreNumbers, chosen_loops_fit, chosen_basis_fits}
 

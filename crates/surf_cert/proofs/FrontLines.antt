@@ -1,20 +1,8 @@
 -- A certificate of loops by its front and the lines behind that.
-use Rattle.surf_surfaces.proofs.Common.{◌≡◌, ◌≤◌, ◌+◌, ◌-◌, ◌++◌, ℕ, zero, suc, List, [], ◌∷◌, drop, Option, Some, None, Result, Ok, Err, true, refl, sym, ◌∙◌, ap, subst, codes, arith, map, IfOk, MatchOption}
-use Rattle.std.specs.Prelude.{⊤, ok_or}
-use Rattle.std.proofs.lemmas.List.{drop-drop, map-append}
-use Rattle.std.proofs.Math.Nat.{div-le_self}
-use Rattle.surf_text.specs.Text.{TextLine, tokens_of}
-use Rattle.surf_validity.specs.Rows.{TreeRows, DualRows, LoopCert}
-use Rattle.surf_base.specs.Gives.{Gives, ◌>>=◌}
-use Rattle.surf_text.specs.Walks.{text_line}
+use Rattle.surf_cert.proofs.Common.{◌≡◌, ◌≤◌, ◌+◌, ◌-◌, ◌++◌, ℕ, zero, suc, List, [], ◌∷◌, drop, Option, Some, None, Result, Ok, Err, true, refl, sym, ◌∙◌, ap, subst, codes, arith, map, IfOk, MatchOption, ⊤, ok_or, drop-drop, map-append, div-le_self, TextLine, tokens_of, TreeRows, DualRows, LoopCert, Gives, ◌>>=◌, text_line, CertText, Memory, Form, Trailing, counts_of, base_of, tree_row, dual_row, the_word, LineForm, Read, onto_rows, left_of, ended, Loops, Front, front_faces, begins_loops, Counts}
 use Rattle.surf_text.specs.declared.lines.Line.{Line}
-use Rattle.surf_cert.specs.declared.fault.CertText.{CertText}
-use Rattle.surf_cert.specs.declared.fault.CertText.TheVariants.{Memory, Form, Trailing}
-use Rattle.surf_cert.specs.Lines.{counts_of, base_of, tree_row, dual_row, the_word}
-use Rattle.surf_cert.specs.Grammar.{LineForm, Read, next_of, onto_rows, rows_of, tree_of, based_tree, dual_rows_of, dual_of, left_of, ended, loops_in, cert_in}
-use Rattle.surf_records.specs.declared.cert.Cert.TheVariants.{Loops}
-use Rattle.surf_cert.specs.Fronts.{Front, front_faces, more_faces, front_in, behind_front, begins_loops}
-use Rattle.surf_cert.specs.declared.line.Counts.{Counts}
+use Rattle.surf_cert.specs.Grammar.{next_of, rows_of, tree_of, based_tree, dual_rows_of, dual_of, loops_in, cert_in}
+use Rattle.surf_cert.specs.Fronts.{more_faces, front_in, behind_front}
 
 Leaves : {A : Type 0} → ℕ → List TextLine → Read A → Type 0
 Leaves n lines read = IfOk read (λ x. x.1 ≡ drop n lines)

@@ -1,3 +1,4 @@
+pub mod Common
 pub mod BlankLines
 pub mod FrontLines
 pub mod Numbers

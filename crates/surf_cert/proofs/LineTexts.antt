@@ -1,17 +1,7 @@
 -- Each line that is written is read as what it was written of.
-use Rattle.std.proofs.Common.{◌≡◌, ◌<◌, ◌+◌, ◌^◌, ℕ, suc, true, false, List, [], ◌∷◌, ◌++◌, Option, Some, None, Ok, refl, sym, ◌∙◌, ap, append_assoc, append-nil, codes, inl, inr, arith}
-use Rattle.surf_surfaces.proofs.Common.{decimal, map, nat_le, nat_lt, ◌==◌, bytes_eq, cases_Bool, le-leb, lt-ltb, eq-eqb, bytes_eq-Decides}
-use Rattle.std.specs.List.{All}
-use Rattle.std.specs.Option.{option_map_or}
+use Rattle.surf_cert.proofs.Common.{◌≡◌, ◌<◌, ◌+◌, ◌^◌, ℕ, suc, true, false, List, [], ◌∷◌, ◌++◌, Option, Some, None, Ok, refl, sym, ◌∙◌, ap, append_assoc, append-nil, codes, inl, inr, arith, decimal, map, nat_le, nat_lt, ◌==◌, bytes_eq, cases_Bool, le-leb, lt-ltb, eq-eqb, bytes_eq-Decides, All, option_map_or, whole, IsWord, word_decimal, whole_decimal, lines_from, cert_number, the_word, base_of, base_at, parent_of, tree_row, dual_row, is_next, pair_behind, cycle_of, greatest, IsNumber, IsParent, IsPair, IsFaceRow, CycleFits, next_of, numbers_text, base_line, vertex_line, face_line, pair_line, cycle_line}
 use Rattle.std.proofs.lemmas.Fmt.{decimal_digit}
-use Rattle.surf_text.specs.Text.{whole}
-use Rattle.surf_off.proofs.Decimals.{IsWord, word_decimal, whole_decimal}
-use Rattle.surf_off.proofs.Reread.{lines_from}
-use Rattle.surf_cert.specs.Lines.{cert_number, the_word, base_of, base_at, parent_of, tree_row, dual_row, is_next, pair_behind, numbers_of, cycle_of}
-use Rattle.surf_records.specs.Fits.{greatest, IsNumber, IsParent, IsPair, IsFaceRow, CycleFits}
-use Rattle.surf_cert.specs.Grammar.{next_of}
-use Rattle.surf_text.specs.Numbers.{numbers_text}
-use Rattle.surf_cert.specs.Written.{base_line, vertex_line, face_line, pair_line, cycle_line}
+use Rattle.surf_cert.specs.Lines.{numbers_of}
 use Rattle.surf_cert.proofs.WordLines.{spaced, line_of, AllWords, line_again}
 
 small : (n : ℕ) → IsNumber n → n < 2 ^ 64

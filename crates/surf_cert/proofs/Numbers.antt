@@ -1,10 +1,6 @@
 -- The numbers of a line, one after the other.
-use Rattle.std.proofs.Common.{◌≡◌, ◌≢◌, ℕ, suc, List, [], ◌∷◌, ◌++◌, length, Option, Some, None, Result, Ok, Err, refl, sym, ◌∙◌, ap, append_assoc, append-nil, arith}
-use Rattle.surf_cert.specs.declared.fault.CertText.{CertText}
-use Rattle.std.specs.Prelude.{ok_or, option_map}
-use Rattle.std.specs.Option.{option_zip}
-use Rattle.surf_cert.specs.declared.fault.CertText.TheVariants.{Form}
-use Rattle.surf_cert.specs.Lines.{cert_number, numbers_of, cycle_of}
+use Rattle.surf_cert.proofs.Common.{◌≡◌, ◌≢◌, ℕ, suc, List, [], ◌∷◌, ◌++◌, length, Option, Some, None, Result, Ok, Err, refl, sym, ◌∙◌, ap, append_assoc, append-nil, arith, CertText, ok_or, option_map, option_zip, Form, cert_number, cycle_of}
+use Rattle.surf_cert.specs.Lines.{numbers_of}
 
 -- the numbers that were read before, and those that are still read
 abbrev pub with_numbers : List ℕ → Option (List ℕ) → Option (List ℕ)

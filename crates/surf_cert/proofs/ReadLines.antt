@@ -1,13 +1,7 @@
 -- What was read of a line fits the lines of a text.
-use Rattle.surf_surfaces.proofs.Common.{◌≡◌, ◌<◌, ◌≤◌, ◌^◌, ℕ, suc, Bool, true, false, List, [], ◌∷◌, length, Option, Some, None, refl, ap, codes, inl, inr, arith, nat_le, nat_lt, ◌&&◌, ◌==◌, IfSome, bytes_eq, cases_Bool, leb-true, ltb-true, eqb-true, is_ascii_digit, All-nil, All-cons}
-use Rattle.std.specs.List.{All, list_all}
-use Rattle.surf_text.specs.Text.{is_nonempty, value_of, whole}
-use Rattle.surf_cert.specs.declared.line.Counts.{Counts}
-use Rattle.surf_cert.specs.Lines.{option_filter, cert_number, three_counts, counts_of, base_of, base_at, parent_of, tree_row, dual_row, pair_of, is_next, pair_behind, numbers_of, cycle_of}
-use Rattle.std.specs.Prelude.{option_map}
-use Rattle.std.specs.Option.{option_zip}
+use Rattle.surf_cert.proofs.Common.{◌≡◌, ◌<◌, ◌≤◌, ◌^◌, ℕ, suc, Bool, true, false, List, [], ◌∷◌, length, Option, Some, None, refl, ap, codes, inl, inr, arith, nat_le, nat_lt, ◌&&◌, ◌==◌, IfSome, bytes_eq, cases_Bool, leb-true, ltb-true, eqb-true, is_ascii_digit, All-nil, All-cons, All, list_all, is_nonempty, value_of, whole, Counts, option_filter, cert_number, three_counts, counts_of, base_of, base_at, parent_of, tree_row, dual_row, is_next, pair_behind, cycle_of, option_map, option_zip, greatest, IsNumber, IsParent, IsPair, IsFaceRow, CycleFits}
+use Rattle.surf_cert.specs.Lines.{pair_of, numbers_of}
 use Rattle.surf_cert.proofs.Numbers.{onto_numbers}
-use Rattle.surf_records.specs.Fits.{greatest, IsNumber, IsParent, IsPair, IsFaceRow, CycleFits}
 
 -- what passes a test has what the test shows
 filter_fits : {A : Type 0} (test : A → Bool) (P Q : A → Type 0) → ((x : A) → test x ≡ true → P x → Q x) → (o : Option A)

@@ -1,20 +1,8 @@
 -- A certificate that was read fits the lines of a text.
-use Rattle.surf_surfaces.proofs.Common.{◌≡◌, ◌<◌, ◌+◌, ◌^◌, ℕ, zero, suc, true, List, [], ◌∷◌, length, get_or, Option, Some, None, Result, Ok, Err, refl, sym, ◌∙◌, ap, subst, codes, inl, inr, arith, map, IfOk, IfSome, cases_Bool, length-map, pair_lt, All-nil, All-cons}
-use Rattle.std.specs.List.{All, AllPairs, zip}
+use Rattle.surf_cert.proofs.Common.{◌≡◌, ◌<◌, ◌+◌, ◌^◌, ℕ, zero, suc, true, List, [], ◌∷◌, length, get_or, Option, Some, None, Result, Ok, Err, refl, sym, ◌∙◌, ap, subst, codes, inl, inr, arith, map, IfOk, IfSome, cases_Bool, length-map, pair_lt, All-nil, All-cons, All, AllPairs, zip, pair_lt-trans, TextLine, tokens_of, lines_of, CertText, Memory, Form, Trailing, Loops, Basis, ok_or, Counts, TreeRows, DualRows, LoopCert, BasisCert, is_header, counts_of, base_of, base_at, tree_row, dual_row, is_next, pair_behind, cycle_of, the_word, IsNumber, IsParent, IsPair, IsFaceRow, TreeFits, DualFits, LeftFits, CycleFits, LoopFits, BasisFits, CertFits, Gives, ◌>>=◌, onto_rows, ended, parsed_cert}
 use Rattle.std.proofs.lemmas.List.Kept.{AllPairs-cons}
-use Rattle.surf_surfaces.proofs.meshes.PairLaws.{pair_lt-trans}
-use Rattle.surf_text.specs.Text.{TextLine, tokens_of, lines_of}
 use Rattle.surf_records.specs.declared.cert.Cert.{Cert}
-use Rattle.surf_cert.specs.declared.fault.CertText.{CertText}
-use Rattle.surf_cert.specs.declared.fault.CertText.TheVariants.{Memory, Form, Trailing}
-use Rattle.surf_records.specs.declared.cert.Cert.TheVariants.{Loops, Basis}
-use Rattle.std.specs.Prelude.{ok_or}
-use Rattle.surf_cert.specs.declared.line.Counts.{Counts}
-use Rattle.surf_validity.specs.Rows.{TreeRows, DualRows, LoopCert, BasisCert}
-use Rattle.surf_cert.specs.Lines.{is_header, counts_of, base_of, base_at, tree_row, dual_row, is_next, pair_behind, cycle_of, the_word}
-use Rattle.surf_records.specs.Fits.{IsNumber, IsParent, IsPair, IsFaceRow, TreeFits, DualFits, LeftFits, CycleFits, LoopFits, BasisFits, CertFits}
-use Rattle.surf_base.specs.Gives.{Gives, ◌>>=◌}
-use Rattle.surf_cert.specs.Grammar.{next_of, onto_rows, rows_of, pairs_of, tree_of, based_tree, trees_of, dual_rows_of, dual_of, left_of, cycles_of, ended, loops_in, basis_in, cert_in, parsed_cert}
+use Rattle.surf_cert.specs.Grammar.{next_of, rows_of, pairs_of, tree_of, based_tree, trees_of, dual_rows_of, dual_of, left_of, cycles_of, loops_in, basis_in, cert_in}
 use Rattle.surf_cert.proofs.Reread.{Follow}
 use Rattle.surf_cert.proofs.ReadLines.{IsRow, row_fits, face_fits, behind_fits, cycle_fits, base_fits, base_at_fits, AreCounts, counts_fit}
 

@@ -1,20 +1,7 @@
 -- What is written of a certificate that fits is read as that certificate.
-use Rattle.std.proofs.Common.{◌≡◌, ◌<◌, ◌+◌, ◌^◌, ℕ, zero, suc, true, List, [], ◌∷◌, ◌++◌, length, get_or, Option, Some, None, Result, Ok, refl, sym, ◌∙◌, ap, subst, append_assoc, append-nil, codes, arith}
-use Rattle.std.specs.Prelude.{decimal, flat_map}
-use Rattle.std.specs.List.{All, AllPairs, zip}
-use Rattle.std.proofs.lemmas.Slice.Zip.{length-zip, firsts-zip, seconds-zip}
+use Rattle.surf_cert.proofs.Common.{◌≡◌, ◌<◌, ◌+◌, ◌^◌, ℕ, zero, suc, true, List, [], ◌∷◌, ◌++◌, length, get_or, Option, Some, None, Result, Ok, refl, sym, ◌∙◌, ap, subst, append_assoc, append-nil, codes, arith, decimal, flat_map, All, AllPairs, zip, length-zip, firsts-zip, seconds-zip, TextLine, tokens_of, IsWord, word_decimal, lines_from, CertText, Loops, Basis, Counts, TreeRows, DualRows, LoopCert, BasisCert, counts_of, base_of, base_at, tree_row, dual_row, is_next, cycle_of, IsNumber, IsParent, IsPair, IsFaceRow, TreeFits, DualFits, LeftFits, CycleFits, LoopFits, BasisFits, next_of, cert_head_text, base_line, vertex_line, face_line, pair_line, cycle_line, tree_text, dual_text, left_text, cycles_text, RereadsLoops, RereadsBasis}
 use Rattle.surf_surfaces.specs.Mesh.{pair_lt}
-use Rattle.surf_text.specs.Text.{TextLine, tokens_of}
-use Rattle.surf_off.proofs.Decimals.{IsWord, word_decimal}
-use Rattle.surf_off.proofs.Reread.{lines_from}
-use Rattle.surf_cert.specs.declared.fault.CertText.{CertText}
-use Rattle.surf_records.specs.declared.cert.Cert.TheVariants.{Loops, Basis}
-use Rattle.surf_cert.specs.declared.line.Counts.{Counts}
-use Rattle.surf_validity.specs.Rows.{TreeRows, DualRows, LoopCert, BasisCert}
-use Rattle.surf_cert.specs.Lines.{counts_of, base_of, base_at, tree_row, dual_row, is_next, cycle_of}
-use Rattle.surf_records.specs.Fits.{IsNumber, IsParent, IsPair, IsFaceRow, TreeFits, DualFits, LeftFits, CycleFits, LoopFits, BasisFits}
-use Rattle.surf_cert.specs.Grammar.{next_of, rows_of, pairs_of, tree_of, based_tree, trees_of, dual_rows_of, dual_of, left_of, cycles_of, loops_in, basis_in, cert_in}
-use Rattle.surf_cert.specs.Written.{cert_head_text, base_line, vertex_line, face_line, pair_line, cycle_line, tree_text, dual_text, left_text, cycles_text, RereadsLoops, RereadsBasis}
+use Rattle.surf_cert.specs.Grammar.{rows_of, pairs_of, tree_of, based_tree, trees_of, dual_rows_of, dual_of, left_of, cycles_of, loops_in, basis_in, cert_in}
 use Rattle.surf_cert.proofs.WordLines.{line_of, AllWords, line_first, kept_is, line_again}
 use Rattle.surf_cert.proofs.LineTexts.{Reads, number_again, dual_again, left_again, cycles_again, base_again, base_at_again, vertex_again, face_again, pair_again, cycle_again}
 

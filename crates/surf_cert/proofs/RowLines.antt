@@ -1,13 +1,7 @@
 -- Lines of one form, one after the other.
-use Rattle.std.proofs.Common.{◌≡◌, ◌<◌, ◌≤◌, ◌+◌, ◌-◌, ℕ, suc, List, [], ◌∷◌, ◌++◌, Option, Some, Result, Ok, Err, refl, sym, ◌∙◌, ap, append_assoc, append-nil, arith}
-use Rattle.surf_surfaces.proofs.Common.{map, fold}
-use Rattle.surf_text.specs.Text.{TextLine}
-use Rattle.surf_cert.specs.declared.fault.CertText.{CertText}
-use Rattle.surf_validity.specs.Rows.{TreeRows, DualRows}
-use Rattle.surf_cert.specs.Lines.{tree_row, dual_row, pair_behind, base_at}
-use Rattle.surf_base.specs.Gives.{◌>>=◌}
+use Rattle.surf_cert.proofs.Common.{◌≡◌, ◌<◌, ◌≤◌, ◌+◌, ◌-◌, ℕ, suc, List, [], ◌∷◌, ◌++◌, Option, Some, Result, Ok, Err, refl, sym, ◌∙◌, ap, append_assoc, append-nil, arith, map, fold, TextLine, CertText, TreeRows, DualRows, tree_row, dual_row, pair_behind, base_at, ◌>>=◌, next_of, onto_rows, based_tree}
 use Rattle.surf_cert.specs.Fronts.{more_faces}
-use Rattle.surf_cert.specs.Grammar.{next_of, onto_rows, rows_of, pairs_of, tree_of, based_tree, trees_of}
+use Rattle.surf_cert.specs.Grammar.{rows_of, pairs_of, tree_of, trees_of}
 
 -- what was made of the rows so far, and of those that are still read
 abbrev pub with_rows : {A S : Type 0} → (S → A → S) → S → Result (List A × List TextLine) CertText

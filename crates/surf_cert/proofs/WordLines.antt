@@ -1,11 +1,5 @@
 -- Lines of words with a space between any two, and their tokens.
-use Rattle.surf_surfaces.proofs.Common.{◌≡◌, ◌+◌, ℕ, true, false, List, [], ◌∷◌, ◌++◌, Option, Some, Ok, refl, ◌∙◌, ap, subst, list_any}
-use Rattle.surf_text.specs.Text.{TextLine, is_line_end, is_comment_sign, uncommented, words_of, tokens_of, trimmed, onto_lines, lines_of}
-use Rattle.surf_text.proofs.Words.{words_trimmed}
-use Rattle.surf_off.proofs.CleanLines.{AllClean, clean_lines}
-use Rattle.surf_off.proofs.Decimals.{IsWord}
-use Rattle.surf_off.proofs.NumberLines.{opens, uncommented_is, words_word, none_append}
-use Rattle.surf_off.proofs.Reread.{lines_from, first_line}
+use Rattle.surf_cert.proofs.Common.{◌≡◌, ◌+◌, ℕ, true, false, List, [], ◌∷◌, ◌++◌, Option, Some, Ok, refl, ◌∙◌, ap, subst, list_any, TextLine, is_line_end, is_comment_sign, uncommented, words_of, tokens_of, trimmed, onto_lines, lines_of, words_trimmed, AllClean, clean_lines, IsWord, opens, uncommented_is, words_word, none_append, lines_from, first_line}
 use Rattle.surf_cert.specs.Grammar.{next_of}
 
 -- words, each behind a space

@@ -1,8 +1,5 @@
 -- Rows that are written.
-use Rattle.surf_surfaces.proofs.Common.{◌≡◌, ◌<◌, ◌≤◌, ℕ, List, [], ◌∷◌, ◌++◌, length, get_or, drop, refl, sym, ◌∙◌, arith, codes, decimal, zip}
-use Rattle.std.proofs.lemmas.Slice.Zip.{length-zip, get_or-zip}
-use Rattle.surf_text.specs.Numbers.{numbers_text}
-use Rattle.surf_cert.specs.Written.{cycle_line}
+use Rattle.surf_cert.proofs.Common.{◌≡◌, ◌<◌, ◌≤◌, ℕ, List, [], ◌∷◌, ◌++◌, length, get_or, drop, refl, sym, ◌∙◌, arith, codes, decimal, zip, length-zip, get_or-zip, numbers_text, cycle_line}
 
 -- The two columns of some rows are as long as the rows.
 module _ {X : Type 0} (ns : List ℕ) (xs : List X) (same : length ns ≡ length xs) where

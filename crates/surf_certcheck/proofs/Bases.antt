@@ -1,10 +1,5 @@
 -- Conditions that hold below a bound, and the first fault over all bases.
-use Rattle.std.proofs.Common.{◌≡◌, ℕ, ◌<◌, ◌+◌, List, Bool, true, false, eqb, eq-eqb, sym, ◌∙◌, subst, arith, inl, inr}
-use Rattle.surf_surfaces.proofs.Common.{MatchBool, cases_eq, eqb-true, false≢true, Mesh, edge_count}
-use Rattle.surf_validity.specs.Rows.{BasisCert}
-use Rattle.surf_validity.specs.Bases.{IsCovered}
-use Rattle.surf_treecheck.specs.First.{HoldsBelow, FailsFirst}
-use Rattle.surf_treecheck.specs.TreeFaults.{IsFirstAt}
+use Rattle.surf_treecheck.proofs.Common.{◌≡◌, ℕ, ◌<◌, ◌+◌, List, Bool, true, false, eqb, eq-eqb, sym, ◌∙◌, subst, arith, inl, inr, MatchBool, cases_eq, eqb-true, false≢true, Mesh, edge_count, BasisCert, IsCovered, HoldsBelow, FailsFirst, IsFirstAt}
 
 -- the loops of all edges through the tree at a base are sums of cycles that are no longer
 abbrev pub AreCovered : Mesh → List ℕ → BasisCert → ℕ → Type 0

@@ -1,22 +1,9 @@
 -- A certificate of a basis with a fault isn't valid, and a valid one shows a least basis.
-use Rattle.surf_surfaces.proofs.Common.{◌≡◌, ◌≢◌, ℕ, List, [], length, get_or, refl, sym, ap, ◌∙◌, subst, inl, inr, true≢false, get_or_default, Mesh, pair_of, pair_eq, edges, among, IsSurface, ArePositive}
-use Rattle.std.specs.Result.{IfOk, IfErr}
-use Rattle.std.specs.declared.result.Result.{Result}
-use Rattle.std.specs.declared.result.Result.TheVariants.{Ok, Err}
+use Rattle.surf_treecheck.proofs.Common.{◌≡◌, ◌≢◌, ℕ, List, [], length, get_or, refl, sym, ap, ◌∙◌, subst, inl, inr, true≢false, get_or_default, Mesh, pair_of, pair_eq, edges, among, IsSurface, ArePositive, IfOk, IfErr, Result, Ok, Err, pair_eq-true, among-contains, list_any_at, BasisCert, tree_at, IsClosedList, IsValidBasis, basis_total, HoldsBelow, IsBadPair, IsBasisShapeFault, CertPart, Vertices, Faces, Loops, Base, CertFault, Shape, Parent, Distance, Slack, Dual, Heavier, NotClosed, Dependent, Uncovered, Memory}
+use Rattle.surf_certcheck.proofs.Common.{IsCycleClosed, IsIndependentAt, AreTreesDivided, IsBasisFault}
 use Rattle.surf_surfaces.specs.Homology.{total, IsLeastBasis}
-use Rattle.surf_surfaces.proofs.meshes.PairLaws.{pair_eq-true}
-use Rattle.surf_surfaces.proofs.meshes.EdgeLaws.{among-contains, list_any_at}
-use Rattle.surf_validity.specs.Rows.{BasisCert}
-use Rattle.surf_validity.specs.Bases.{tree_at, IsClosedList, IsValidBasis, basis_total}
 use Rattle.surf_validity.proofs.BasisLaws.{valid_bases_are_least}
-use Rattle.surf_treecheck.specs.First.{HoldsBelow}
-use Rattle.surf_treecheck.specs.Split.{IsBadPair}
-use Rattle.surf_certcheck.specs.BasisFaults.{IsCycleClosed, IsIndependentAt, AreTreesDivided, IsBasisFault}
-use Rattle.surf_treecheck.specs.Shapes.{IsBasisShapeFault}
-use Rattle.surf_treecheck.specs.declared.fault.CertPart.{CertPart}
-use Rattle.surf_treecheck.specs.declared.fault.CertPart.TheVariants.{Vertices, Faces, Loops, Base}
-use Rattle.surf_treecheck.specs.declared.fault.CertFault.{CertFault}
-use Rattle.surf_treecheck.specs.declared.fault.CertFault.TheVariants.{Shape, Parent, Distance, Slack, Dual, Split, Heavier, NotClosed, Dependent, Uncovered, Memory}
+use Rattle.surf_treecheck.specs.declared.fault.CertFault.TheVariants.{Split}
 use Rattle.surf_certcheck.proofs.Bases.{AreCovered}
 
 -- all conditions together

@@ -1,14 +1,10 @@
 -- Faces up to which no edge of the tree of faces has a shorter loop, and left edges that are still doubtful.
-use Rattle.surf_surfaces.proofs.Common.{◌≡◌, ℕ, ◌<◌, ◌≤◌, ◌⊎◌, Bool, true, false, eqb, List, length, get_or, slice_index, set, refl, sym, ap, ◌∙◌, subst, arith, inl, inr, cases_eq, false≢true, eqb-true, dual as faces, IsTree, on_path, cells_of, edge_count, face_count, faces_of, IsSurface}
-use Rattle.std.proofs.lemmas.List.{length-set, get_or-set_same, get_or-set_other}
+use Rattle.surf_treecheck.proofs.Common.{◌≡◌, ℕ, ◌<◌, ◌≤◌, ◌⊎◌, Bool, true, false, eqb, List, length, get_or, slice_index, set, refl, sym, ap, ◌∙◌, subst, arith, inl, inr, cases_eq, false≢true, eqb-true, IsTree, on_path, cells_of, edge_count, face_count, faces_of, IsSurface, length-set, get_or-set_same, get_or-set_other, depth_at, dual_tree, is_listed, HasNoShorter, dual_rows_are_tree, AreFlags}
+use Rattle.surf_certcheck.proofs.Common.{climbed, none_between, size_at, IsClear, IsHeld, IsTop, AreTops, IsDoubt, AreDoubts}
+use Rattle.surf_surfaces.proofs.Common.{dual as faces}
 use Rattle.surf_z2.specs.Parity.{xor, xor_comm}
-use Rattle.surf_signatures.proofs.Meeting.{climbed, none_between}
-use Rattle.surf_validity.specs.Valid.{depth_at, dual_tree, is_listed, HasNoShorter}
-use Rattle.surf_validity.proofs.DualLaws.{dual_rows_are_tree}
-use Rattle.surf_treecheck.specs.Split.{AreFlags}
 use Rattle.surf_treecheck.proofs.FaceLinks.{step_is}
 use Rattle.surf_certcheck.specs.declared.heavier.Judge.{Judge}
-use Rattle.surf_certcheck.specs.Tops.{size_at, IsClear, IsHeld, IsTop, AreTops, IsDoubt, AreDoubts}
 
 -- ---- edges between nodes of a tree
 

@@ -1,9 +1,8 @@
 -- A frame with one cycle more, and what a frame tells of sums.
-use Rattle.surf_surfaces.proofs.Common.{◌≡◌, ◌≢◌, ℕ, ◌<◌, ◌^◌, Bool, true, false, cond, List, [], ◌∷◌, ◌++◌, length, get_or, set, map, filter, slice_index, Option, Some, None, All, bit_xor, nat_le, refl, sym, ap, ◌∙◌, subst, arith, inl, inr, get_or-set_same, get_or-set_other, MatchBool, AllByRecursion, cases_eq, cases_lt, le-leb, leb-true, get_or_past, length-set, has, Split, signature, cells_of, Mesh, steps, edge_signature, walk_signature, edge_count, edge_number, xor_lt, pow_pos, pow_below, numbers, Weighed, Spanned, SpannedUpToWeight, vectors, sum_of, small, has-xor, InSpan, cancel, in_from_spanned, spanned_from_in}
-use Rattle.std.proofs.lemmas.List.Elements.{All-push, recursion_from_All, Contains-push, Contains-append_left}
+use Rattle.surf_treecheck.proofs.Common.{◌≡◌, ◌≢◌, ℕ, ◌<◌, ◌^◌, Bool, true, false, cond, List, [], ◌∷◌, ◌++◌, length, get_or, set, map, filter, slice_index, Option, Some, None, All, bit_xor, nat_le, refl, sym, ap, ◌∙◌, subst, arith, inl, inr, get_or-set_same, get_or-set_other, MatchBool, AllByRecursion, cases_eq, cases_lt, le-leb, leb-true, get_or_past, length-set, has, Split, signature, cells_of, Mesh, steps, edge_signature, walk_signature, edge_count, edge_number, xor_lt, pow_pos, pow_below, numbers, Weighed, Spanned, SpannedUpToWeight, vectors, sum_of, small, has-xor, InSpan, cancel, in_from_spanned, spanned_from_in, All-push, recursion_from_All, Contains-append_left}
+use Rattle.surf_certcheck.proofs.Common.{Signed, added_where, IsFrame, HasPlace, IsPlacedUpTo, weight_at}
+use Rattle.std.proofs.lemmas.List.Elements.{Contains-push}
 use Rattle.surf_z2.proofs.Linear.{passing_in}
-use Rattle.surf_signatures.specs.Tables.{Signed, added_where}
-use Rattle.surf_certcheck.specs.Frames.{IsFrame, HasPlace, IsPlacedUpTo, weight_at}
 use Rattle.surf_certcheck.proofs.Placing.{has_one, gathered, members_of_sum, image_in}
 use Rattle.surf_certcheck.proofs.Turning.{moved_other, moved_coordinates}
 

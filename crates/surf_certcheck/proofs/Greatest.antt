@@ -1,8 +1,7 @@
 -- The greatest number of a set that is written in words.
-use Rattle.surf_surfaces.proofs.Common.{◌≡◌, ℕ, suc, ◌+◌, ◌*◌, ◌/◌, ◌%◌, ◌^◌, ◌<◌, ◌≤◌, List, get_or, eqb, ap, ◌∙◌, subst, arith, inl, inr, cases_eq, number, bit_at, bit_at_above, bit_at-zero, pow-add}
-use Rattle.std.proofs.lemmas.Nat.{pow_pos, le-div, div_below}
+use Rattle.surf_treecheck.proofs.Common.{◌≡◌, ℕ, suc, ◌+◌, ◌*◌, ◌/◌, ◌%◌, ◌^◌, ◌<◌, ◌≤◌, List, get_or, eqb, ap, ◌∙◌, subst, arith, inl, inr, cases_eq, number, bit_at, bit_at_above, bit_at-zero, pow-add, pow_pos, le-div, div_below}
+use Rattle.surf_certcheck.proofs.Common.{IsGreatestIn}
 use Rattle.surf_z2.proofs.Words.{bit_number}
-use Rattle.surf_certcheck.specs.Columns.{IsGreatestIn}
 
 -- a number from a power of two up to the next has its bit
 top_bit : (a j : ℕ) → 2 ^ j ≤ a → a < 2 ^ (j + 1) → bit_at a j ≡ 1

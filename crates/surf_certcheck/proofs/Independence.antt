@@ -1,11 +1,7 @@
 -- The cycles of a certificate by their places, and the frame of the first of them.
-use Rattle.surf_surfaces.proofs.Common.{◌≡◌, ◌≢◌, ℕ, ◌<◌, ◌+◌, ◌^◌, true, Option, Some, None, List, [], length, get_or, map, set, take, bit_xor, sym, ap, ◌∙◌, subst, map-map, has, Mesh, walk_signature, edge_count, walk_length, take-length, numbers, Spanned, vectors, Weighed}
-use Rattle.std.proofs.lemmas.List.{get_or-map, take-map, map_more}
-use Rattle.surf_signatures.specs.Tables.{Signed, added_where}
-use Rattle.surf_validity.specs.Bases.{split_in, signatures, IsDependent, weighed_cycle}
-use Rattle.surf_validity.specs.Rows.{BasisCert}
-use Rattle.surf_certcheck.specs.BasisFaults.{cycle_at, IsIndependentAt}
-use Rattle.surf_certcheck.specs.Frames.{IsFrame, IsFrameOf, weight_at}
+use Rattle.surf_treecheck.proofs.Common.{◌≡◌, ◌≢◌, ℕ, ◌<◌, ◌+◌, ◌^◌, true, Option, Some, None, List, [], length, get_or, map, set, take, bit_xor, sym, ap, ◌∙◌, subst, map-map, has, Mesh, walk_signature, edge_count, walk_length, take-length, numbers, Spanned, vectors, Weighed, get_or-map, take-map, split_in, signatures, IsDependent, weighed_cycle, BasisCert}
+use Rattle.surf_certcheck.proofs.Common.{Signed, added_where, cycle_at, IsIndependentAt, IsFrame, IsFrameOf, weight_at}
+use Rattle.std.proofs.lemmas.List.{map_more}
 use Rattle.surf_certcheck.proofs.Framing.{signature_small, all_placed, not_all_placed, frame_more}
 
 -- the frame of all of them

@@ -1,11 +1,8 @@
 -- The least short number of a set that grows, and that of the edges between two nodes of a tree.
-use Rattle.surf_surfaces.proofs.Common.{◌≡◌, ◌≢◌, ℕ, ◌<◌, ◌≤◌, Bool, true, false, not, ◌&&◌, List, eqb, ltb, refl, sym, ap, ◌∙◌, subst, arith, inl, inr, ◌⊎◌, Option, Some, None, cases_Bool, cases_eq, cases_lt, false≢true, ltb-true, ne_eqb, eq-eqb, nat_tests, xor, Graph, between, Tree, IsTree, on_path, Mesh, edge_count, faces_of}
+use Rattle.surf_treecheck.proofs.Common.{◌≡◌, ◌≢◌, ℕ, ◌<◌, ◌≤◌, Bool, true, false, not, ◌&&◌, List, eqb, ltb, refl, sym, ap, ◌∙◌, subst, arith, inl, inr, ◌⊎◌, Option, Some, None, cases_Bool, cases_eq, cases_lt, false≢true, ltb-true, ne_eqb, eq-eqb, nat_tests, xor, Graph, between, Tree, IsTree, on_path, Mesh, edge_count, faces_of, LoopCert, dual_tree, loop_size, IsNotHeavier, FindsFirst}
+use Rattle.surf_certcheck.proofs.Common.{climbed, either_first, none_between, IsShort, IsLeastIn, IsLeastWith}
 use Rattle.surf_graphs.proofs.Trees.{path_root, path_step, up_once, down_tree}
-use Rattle.surf_signatures.proofs.Meeting.{climbed, either_first, none_between}
-use Rattle.surf_validity.specs.Rows.{LoopCert}
-use Rattle.surf_validity.specs.Valid.{dual_tree, loop_size, IsNotHeavier}
-use Rattle.surf_treecheck.specs.First.{FindsFirst}
-use Rattle.surf_certcheck.specs.Least.{IsShort, IsLeastIn, IsLeastWith, least_with}
+use Rattle.surf_certcheck.specs.Least.{least_with}
 
 -- ---- a set with one more number
 

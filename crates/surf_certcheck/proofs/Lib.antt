@@ -1,3 +1,4 @@
+pub mod Common
 pub mod LeastIn
 pub mod LoopFaults
 pub mod OneFault

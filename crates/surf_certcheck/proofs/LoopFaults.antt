@@ -1,18 +1,7 @@
 -- The fault of a certificate of loops is its first one, and one with a fault isn't valid.
-use Rattle.surf_surfaces.proofs.Common.{◌≢◌, ℕ, zero, suc, List, get_or, refl, sym, ap, inl, inr, ◌∙◌, true≢false, Mesh, pair_of, pair_eq, edges, among, edge_count}
-use Rattle.surf_surfaces.proofs.meshes.PairLaws.{pair_eq-true}
-use Rattle.surf_surfaces.proofs.meshes.EdgeLaws.{among-contains, list_any_at}
-use Rattle.surf_validity.specs.Rows.{TreeRows, DualRows, LoopCert}
-use Rattle.surf_validity.specs.Valid.{HasShape, IsNoShortCut, IsDualValid, IsDivided, HasNoShorter, IsValidLoops}
-use Rattle.surf_treecheck.specs.First.{HoldsBelow}
-use Rattle.surf_treecheck.specs.Rows.{HasParent, HasDistance}
-use Rattle.surf_treecheck.specs.Split.{IsBadPair}
-use Rattle.surf_treecheck.specs.Shapes.{IsShapeFault}
-use Rattle.surf_certcheck.specs.LoopFaults.{IsLoopFault}
-use Rattle.surf_treecheck.specs.declared.fault.CertPart.{CertPart}
-use Rattle.surf_treecheck.specs.declared.fault.CertPart.TheVariants.{Vertices, Faces, Loops, Base}
-use Rattle.surf_treecheck.specs.declared.fault.CertFault.{CertFault}
-use Rattle.surf_treecheck.specs.declared.fault.CertFault.TheVariants.{Shape, Parent, Distance, Slack, Dual, Split, Heavier, NotClosed, Dependent, Uncovered, Memory}
+use Rattle.surf_treecheck.proofs.Common.{◌≢◌, ℕ, zero, suc, List, get_or, refl, sym, ap, inl, inr, ◌∙◌, true≢false, Mesh, pair_of, pair_eq, edges, among, edge_count, pair_eq-true, among-contains, list_any_at, TreeRows, DualRows, LoopCert, HasShape, IsNoShortCut, IsDualValid, IsDivided, HasNoShorter, IsValidLoops, HoldsBelow, HasParent, HasDistance, IsBadPair, IsShapeFault, CertPart, Vertices, Faces, Loops, Base, CertFault, Shape, Parent, Distance, Slack, Dual, Heavier, NotClosed, Dependent, Uncovered, Memory}
+use Rattle.surf_certcheck.proofs.Common.{IsLoopFault}
+use Rattle.surf_treecheck.specs.declared.fault.CertFault.TheVariants.{Split}
 use Rattle.surf_treecheck.proofs.FirstFault.{kind, Passed, AreFirst}
 
 -- a pair keeps the trees and the list from dividing the edges

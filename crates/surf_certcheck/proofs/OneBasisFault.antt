@@ -1,17 +1,7 @@
 -- The fault of a certificate of a basis is its first one, so there is one, and a valid certificate has none.
-use Rattle.surf_surfaces.proofs.Common.{◌≡◌, ◌≢◌, ℕ, zero, suc, List, [], length, refl, sym, ap, subst, ◌∙◌, Mesh, face_count, edge_count, ends}
-use Rattle.surf_validity.specs.Rows.{BasisCert}
-use Rattle.surf_validity.specs.Valid.{IsDualValid, IsDivided, HasDualRows}
-use Rattle.surf_validity.specs.Bases.{tree_at, HasBasisShape, IsCovered, IsValidBasis, HasTrees, HasCounts}
-use Rattle.surf_treecheck.specs.First.{HoldsBelow, FailsFirst}
-use Rattle.surf_treecheck.specs.Rows.{HasDual}
-use Rattle.surf_treecheck.specs.Shapes.{HasBase, IsBasisShapeFault, FirstPart}
-use Rattle.surf_treecheck.specs.TreeFaults.{IsFirstAt, HasParentAt, HasDistanceAt, IsNoShortCutAt, HasParents, HasDistances}
-use Rattle.surf_certcheck.specs.BasisFaults.{IsCycleClosed, IsIndependentAt, DependsFirst, AreTreesDivided, IsBasisFault}
-use Rattle.surf_treecheck.specs.declared.fault.CertPart.{CertPart}
-use Rattle.surf_treecheck.specs.declared.fault.CertPart.TheVariants.{Vertices, Faces, Loops, Base}
-use Rattle.surf_treecheck.specs.declared.fault.CertFault.{CertFault}
-use Rattle.surf_treecheck.specs.declared.fault.CertFault.TheVariants.{Shape, Parent, Distance, Slack, Dual, Split, Heavier, NotClosed, Dependent, Uncovered, Memory}
+use Rattle.surf_treecheck.proofs.Common.{◌≡◌, ◌≢◌, ℕ, zero, suc, List, [], length, refl, sym, ap, subst, ◌∙◌, Mesh, face_count, edge_count, ends, BasisCert, IsDualValid, IsDivided, HasDualRows, tree_at, HasBasisShape, IsCovered, IsValidBasis, HasTrees, HasCounts, HoldsBelow, FailsFirst, HasDual, HasBase, IsBasisShapeFault, FirstPart, IsFirstAt, HasParentAt, HasDistanceAt, IsNoShortCutAt, HasParents, HasDistances, CertPart, Vertices, Faces, Loops, Base, CertFault, Shape, Parent, Distance, Slack, Dual, Heavier, NotClosed, Dependent, Uncovered, Memory}
+use Rattle.surf_certcheck.proofs.Common.{IsCycleClosed, IsIndependentAt, DependsFirst, AreTreesDivided, IsBasisFault}
+use Rattle.surf_treecheck.specs.declared.fault.CertFault.TheVariants.{Split}
 use Rattle.surf_treecheck.proofs.ShortCuts.{HasNoShortCut}
 use Rattle.surf_certcheck.proofs.Bases.{AreCovered}
 use Rattle.surf_treecheck.proofs.FirstFault.{first_same, first_part_same, kind, Passed, AreSingle, one_fault}

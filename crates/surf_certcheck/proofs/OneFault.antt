@@ -1,17 +1,7 @@
 -- A certificate has one fault.
-use Rattle.surf_surfaces.proofs.Common.{◌≡◌, ◌≢◌, ℕ, ◌<◌, List, length, sym, ap, subst, inl, inr, ◌∙◌, true≢false, cases_Bool, Mesh, pair_eq, edge_count, ends, IsLoopCount}
-use Rattle.surf_surfaces.proofs.meshes.PairLaws.{pair_eq-true, pair_lt-total}
-use Rattle.surf_validity.specs.Rows.{TreeRows, DualRows, LoopCert}
-use Rattle.surf_validity.specs.Valid.{IsNoShortCut, HasNoShorter, IsNotHeavier, HasTreeRows, HasDualRows}
-use Rattle.surf_treecheck.specs.First.{FailsFirst}
-use Rattle.surf_treecheck.specs.Rows.{HasParent, HasDistance, HasDual}
-use Rattle.surf_treecheck.specs.Split.{IsLeastBadPair}
-use Rattle.surf_treecheck.specs.Shapes.{IsShapeFault, FirstPart}
-use Rattle.surf_certcheck.specs.LoopFaults.{IsHeavierFault, IsLoopFault}
-use Rattle.surf_treecheck.specs.declared.fault.CertPart.{CertPart}
-use Rattle.surf_treecheck.specs.declared.fault.CertPart.TheVariants.{Vertices, Faces, Loops, Base}
-use Rattle.surf_treecheck.specs.declared.fault.CertFault.{CertFault}
-use Rattle.surf_treecheck.specs.declared.fault.CertFault.TheVariants.{Shape, Parent, Distance, Slack, Dual, Split, Heavier, Memory}
+use Rattle.surf_treecheck.proofs.Common.{◌≡◌, ◌≢◌, ℕ, ◌<◌, List, length, sym, ap, subst, inl, inr, ◌∙◌, true≢false, cases_Bool, Mesh, pair_eq, edge_count, ends, IsLoopCount, pair_eq-true, pair_lt-total, TreeRows, DualRows, LoopCert, IsNoShortCut, HasNoShorter, IsNotHeavier, HasTreeRows, HasDualRows, FailsFirst, HasParent, HasDistance, HasDual, IsLeastBadPair, IsShapeFault, FirstPart, CertPart, Vertices, Faces, Loops, Base, CertFault, Shape, Parent, Distance, Slack, Dual, Heavier, Memory}
+use Rattle.surf_certcheck.proofs.Common.{IsHeavierFault, IsLoopFault}
+use Rattle.surf_treecheck.specs.declared.fault.CertFault.TheVariants.{Split}
 use Rattle.surf_treecheck.proofs.FirstFault.{first_same, first_part_same, AreSingle, one_fault}
 use Rattle.surf_certcheck.proofs.LoopFaults.{Holds, loop_faults_are_first}
 

@@ -1,14 +1,7 @@
 -- A certificate that is found valid is least place by place.
-use Rattle.surf_surfaces.proofs.Common.{◌≡◌, ℕ, List, Mesh, IsSurface, ArePositive}
-use Rattle.std.specs.Result.{IfOk}
-use Rattle.std.specs.declared.result.Result.{Result}
-use Rattle.std.specs.declared.result.Result.TheVariants.{Ok, Err}
+use Rattle.surf_treecheck.proofs.Common.{◌≡◌, ℕ, List, Mesh, IsSurface, ArePositive, IfOk, Result, Ok, Err, LoopCert, BasisCert, IsValidLoops, certified_loops, loops_total, IsValidBasis, basis_total, CertFault}
 use Rattle.surf_surfaces.specs.Places.{IsLeastLoopSystemInOrder, IsLeastBasisInOrder, MeasureShortest}
-use Rattle.surf_validity.specs.Rows.{LoopCert, BasisCert}
-use Rattle.surf_validity.specs.Valid.{IsValidLoops, certified_loops, loops_total}
-use Rattle.surf_validity.specs.Bases.{IsValidBasis, basis_total}
 use Rattle.surf_validity.proofs.PlaceLaws.{valid_loops_are_least_in_order, valid_bases_are_least_in_order, valid_bases_measure_shortest}
-use Rattle.surf_treecheck.specs.declared.fault.CertFault.{CertFault}
 
 pub loops_in_order : (mesh : Mesh) (lengths : List ℕ) (cert : LoopCert) → IsSurface mesh → ArePositive mesh lengths →
     (r : Result ℕ CertFault) → IfOk r (λ t. IsValidLoops mesh lengths cert × (t ≡ loops_total mesh lengths cert)) →

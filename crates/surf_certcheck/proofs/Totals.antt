@@ -1,14 +1,7 @@
 -- What a valid certificate of loops shows, and what a fault rules out, of an answer.
-use Rattle.surf_surfaces.proofs.Common.{◌≡◌, ◌≢◌, ℕ, List, sym, ◌∙◌, Mesh, IsSurface, ArePositive, total, IsLeastLoopSystem}
-use Rattle.std.specs.Result.{IfOk, IfErr}
-use Rattle.std.specs.declared.result.Result.{Result}
-use Rattle.std.specs.declared.result.Result.TheVariants.{Ok, Err}
-use Rattle.surf_validity.specs.Rows.{LoopCert}
-use Rattle.surf_validity.specs.Valid.{IsValidLoops, certified_loops, loops_total}
+use Rattle.surf_treecheck.proofs.Common.{◌≡◌, ◌≢◌, ℕ, List, sym, ◌∙◌, Mesh, IsSurface, ArePositive, total, IsLeastLoopSystem, IfOk, IfErr, Result, Ok, Err, LoopCert, IsValidLoops, certified_loops, loops_total, CertFault, Memory}
+use Rattle.surf_certcheck.proofs.Common.{IsLoopFault}
 use Rattle.surf_validity.proofs.LoopLaws.{valid_loops_are_least}
-use Rattle.surf_certcheck.specs.LoopFaults.{IsLoopFault}
-use Rattle.surf_treecheck.specs.declared.fault.CertFault.{CertFault}
-use Rattle.surf_treecheck.specs.declared.fault.CertFault.TheVariants.{Memory}
 use Rattle.surf_certcheck.proofs.LoopFaults.{no_loop_fault}
 
 pub least_where_ok : (mesh : Mesh) (lengths : List ℕ) (cert : LoopCert) → IsSurface mesh → ArePositive mesh lengths →

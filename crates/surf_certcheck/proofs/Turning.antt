@@ -1,8 +1,7 @@
 -- Coordinates after a set was added where the sets of edges have a place.
-use Rattle.surf_surfaces.proofs.Common.{◌≡◌, ◌≢◌, ℕ, ◌<◌, ◌^◌, Bool, true, false, List, length, map, slice_index, bit_xor, refl, sym, ap, ◌∙◌, arith, inl, inr, cases_Bool, get_or-map, xor_lt, has, Split, Mesh, edge_count, xor_zero_r, xor_self, numbers, IsLinear, has-xor}
+use Rattle.surf_treecheck.proofs.Common.{◌≡◌, ◌≢◌, ℕ, ◌<◌, ◌^◌, Bool, true, false, List, length, map, slice_index, bit_xor, refl, sym, ap, ◌∙◌, arith, inl, inr, cases_Bool, get_or-map, xor_lt, has, Split, Mesh, edge_count, xor_zero_r, xor_self, numbers, IsLinear, has-xor}
+use Rattle.surf_certcheck.proofs.Common.{added_where, AreTaken}
 use Rattle.surf_z2.proofs.Span.{four}
-use Rattle.surf_signatures.specs.Tables.{added_where}
-use Rattle.surf_certcheck.specs.Frames.{AreTaken}
 use Rattle.surf_certcheck.proofs.Placing.{has_other, has_none}
 
 -- the sets of edges are what a map that takes sums to sums makes of their signatures, and another map undoes it

@@ -1,22 +1,9 @@
 -- What the conditions on the trees of a certificate show.
-use Rattle.surf_surfaces.proofs.Common.{◌≡◌, ℕ, ◌<◌, ◌+◌, Bool, true, false, not, ◌&&◌, List, length, get_or, slice_index, filter, map, refl, sym, ap, ◌∙◌, subst, arith, range_with_len, get_or-map-range_with_len, length-map-range_with_len, dual, Split, IsTree, left_edges as left_count, cells_of, is_left, tree_edges, cotree_edges, Mesh, edge_signature, edge_count, face_count, IsSurface, ArePositive}
-use Rattle.surf_surfaces.proofs.classes.ClassLaws.{some_vertex}
-use Rattle.surf_signatures.proofs.Passing.{passing_same}
-use Rattle.surf_signatures.specs.Tables.{face_tree, HangsBy}
-use Rattle.surf_validity.specs.Bases.{tree_at, split_in, HasBasisShape, HasTrees}
-use Rattle.surf_validity.specs.Rows.{BasisCert}
-use Rattle.surf_validity.specs.Valid.{certified_tree, dual_tree, is_listed, just_one}
-use Rattle.surf_validity.proofs.DualLaws.{dual_rows_are_tree, dual_rows_in_tree}
+use Rattle.surf_treecheck.proofs.Common.{◌≡◌, ℕ, ◌<◌, ◌+◌, Bool, true, false, not, ◌&&◌, List, length, get_or, slice_index, filter, map, refl, sym, ap, ◌∙◌, subst, arith, range_with_len, get_or-map-range_with_len, length-map-range_with_len, dual, Split, IsTree, cells_of, is_left, tree_edges, cotree_edges, Mesh, edge_signature, edge_count, face_count, IsSurface, ArePositive, some_vertex, tree_at, split_in, HasBasisShape, HasTrees, BasisCert, certified_tree, dual_tree, is_listed, just_one, dual_rows_are_tree, dual_rows_in_tree, HasBase, AreTreesValid, HoldsBelow, AreLinks, IsStepUp, AreFlags, is_flagged}
+use Rattle.surf_certcheck.proofs.Common.{passing_same, face_tree, HangsBy, AreTreesDivided, IsClimbed, HasSplit}
+use Rattle.surf_surfaces.proofs.Common.{left_edges as left_count}
 use Rattle.surf_validity.proofs.SplitLaws.{is_split}
 use Rattle.surf_validity.proofs.TreeLaws.{rows_are_tree, rows_are_shortest, rows_in_tree}
-use Rattle.surf_treecheck.specs.Shapes.{HasBase}
-use Rattle.surf_treecheck.specs.TreeFaults.{AreTreesValid}
-use Rattle.surf_certcheck.specs.BasisFaults.{AreTreesDivided}
-use Rattle.surf_certcheck.specs.Climbs.{IsClimbed}
-use Rattle.surf_treecheck.specs.First.{HoldsBelow}
-use Rattle.surf_certcheck.specs.Frames.{HasSplit}
-use Rattle.surf_treecheck.specs.Paths.{AreLinks, IsStepUp}
-use Rattle.surf_treecheck.specs.Split.{AreFlags, is_flagged}
 use Rattle.surf_treecheck.proofs.FaceLinks.{step_is}
 
 -- the tree at a base is climbed

@@ -1,18 +1,9 @@
 -- Evidence as it is counted.
-use Rattle.surf_surfaces.proofs.Common.{◌≡◌, ◌≢◌, ℕ, ◌<◌, ◌≤◌, Bool, true, false, suc, List, [], ◌∷◌, get_or, AllPairs, All, Contains, Result, Ok, Err, Some, None, IfErr, refl, sym, ap, ◌∙◌, subst, arith, position, get_or_default, xor, Chain, Mesh, edges, pair_lt, face_count, edge_count, faces_of, ends, IsSurface, boundary, edge_number}
-use Rattle.std.proofs.lemmas.List.Quantifiers.{position-Some}
+use Rattle.surf_cert.proofs.Common.{◌≡◌, ◌≢◌, ℕ, ◌<◌, ◌≤◌, Bool, true, false, suc, List, [], ◌∷◌, get_or, AllPairs, All, Contains, Result, Ok, Err, Some, None, IfErr, refl, sym, ap, ◌∙◌, subst, arith, position, get_or_default, xor, Chain, Mesh, edges, pair_lt, face_count, edge_count, faces_of, ends, IsSurface, boundary, edge_number, position-Some, surfaces_are_cells, edges_are_numbered}
+use Rattle.surf_class.proofs.Common.{HoldsBelow, FailsFirst, AreFlags, is_flagged, Evidence, IsEvidence, IsRising, IsNullEvidence, IsOddEvidence, is_listed, has_odd_sides, is_odd_in, IsNoBoundary, IsOddFace, IsEvenNumber, AgreesAt, IsClassFault, ClassFault, Face, Boundary, Pair, OddFace, Even}
 use Rattle.surf_class.proofs.Lists.{none_passes}
-use Rattle.surf_surfaces.proofs.meshes.CellLaws.{surfaces_are_cells}
-use Rattle.surf_surfaces.proofs.LawProofs.{edges_are_numbered}
-use Rattle.surf_treecheck.specs.First.{HoldsBelow, FailsFirst}
-use Rattle.surf_treecheck.specs.Split.{AreFlags, is_flagged}
-use Rattle.surf_classes.specs.Evidence.{Evidence, IsEvidence, IsRising, IsNullEvidence, IsOddEvidence, is_listed, has_odd_sides, is_odd_in}
-use Rattle.surf_classes.specs.Faults.{IsNoBoundary, IsOddFace, IsEvenNumber}
 use Rattle.surf_classes.proofs.FirstFaults.{faults_are_told}
-use Rattle.surf_class.specs.Agreement.{AgreesAt}
-use Rattle.surf_class.specs.Faults.{IsClassFault}
-use Rattle.surf_class.specs.declared.fault.ClassFault.{ClassFault}
-use Rattle.surf_class.specs.declared.fault.ClassFault.TheVariants.{Face, Boundary, Pair, OddFace, Even, Memory}
+use Rattle.surf_class.specs.declared.fault.ClassFault.TheVariants.{Memory}
 
 -- a pair that is an edge has a number
 edge_in : (mesh : Mesh) → IsSurface mesh → (p : ℕ × ℕ) → Contains (edges mesh) p → edge_number mesh p < edge_count mesh

@@ -1,17 +1,10 @@
 -- The chosen evidence.
-use Rattle.surf_surfaces.proofs.Common.{◌≡◌, ℕ, ◌<◌, Bool, true, false, List, length, get_or, map, filter, Option, refl, sym, ap, ◌∙◌, subst, arith, unwrap_or, range_with_len, Chain, has, dual, chain_signature, signature, IsSplit, Tree, signature_of, Mesh, face_count, edge_count, ends, IsSurface, cells_of, edge_signature, leaves_joined, IsBoundary, boundary, below_law}
-use Rattle.surf_z2.specs.Parity.{xor, xor_comm}
+use Rattle.surf_cert.proofs.Common.{◌≡◌, ℕ, ◌<◌, Bool, true, false, List, length, get_or, map, filter, Option, refl, sym, ap, ◌∙◌, subst, arith, unwrap_or, range_with_len, Chain, has, dual, chain_signature, signature, IsSplit, Tree, signature_of, Mesh, face_count, edge_count, ends, IsSurface, cells_of, edge_signature, leaves_joined, IsBoundary, boundary, below_law, surfaces_are_cells}
+use Rattle.surf_class.proofs.Common.{xor_comm, CotreeTables, split_with, cotree_of, AreFlags, has_left, passing_same, joint_parity, AreClosed, IsChosenNull, IsChosenOdd, is_listed, odd_choice_is_filtered, joint_even, IsParted, AreAllSidesOf, differs, is_inside}
+use Rattle.surf_z2.specs.Parity.{xor}
 use Rattle.surf_graphs.proofs.Trees.{along, along_root, along_step}
-use Rattle.surf_surfaces.proofs.meshes.CellLaws.{surfaces_are_cells}
-use Rattle.surf_cotree.specs.Tables.{CotreeTables, split_with, cotree_of}
-use Rattle.surf_treecheck.specs.Split.{AreFlags}
-use Rattle.surf_signatures.specs.Signs.{has_left}
-use Rattle.surf_signatures.proofs.Passing.{passing_same}
-use Rattle.surf_classes.specs.Evidence.{joint_parity, AreClosed, IsChosenNull, IsChosenOdd, is_listed}
 use Rattle.surf_classes.proofs.NullChoice.{null_choice_is_filtered, null_choice_is_one}
-use Rattle.surf_classes.proofs.OddChoice.{odd_choice_is_filtered, joint_even}
 use Rattle.surf_graphs.proofs.CellLaws.{signature_null, signature_is, chain_signature_is}
-use Rattle.surf_class.specs.Sides.{IsParted, AreAllSidesOf, differs, is_inside}
 
 module _ (mesh : Mesh) (surface : IsSurface mesh) (tree : Tree) (t : CotreeTables) (split : IsSplit (cells_of mesh) (split_with tree t))
     (walk : List ℕ) (other : Option (List ℕ)) (closed : AreClosed mesh walk other) (flags : List Bool)

@@ -1,9 +1,6 @@
 -- The ends of chosen edges, in order.
-use Rattle.surf_surfaces.proofs.Common.{◌≡◌, ℕ, ◌<◌, ◌≤◌, true, Bool, List, [], ◌∷◌, map, filter, AllPairs, All, arith, range_with_len, AllByRecursion, All-from_recursion, Mesh, pair_lt, edge_count, ends, IsSurface}
-use Rattle.surf_surfaces.proofs.meshes.EdgeLaws.{rising_at}
-use Rattle.surf_surfaces.proofs.LawProofs.{edges_are_ordered}
-use Rattle.surf_classes.proofs.Listed.{passing_climb, passing_below}
-use Rattle.surf_classes.proofs.OddChoice.{numbers_rise}
+use Rattle.surf_cert.proofs.Common.{◌≡◌, ℕ, ◌<◌, ◌≤◌, true, Bool, List, [], ◌∷◌, map, filter, AllPairs, All, arith, range_with_len, AllByRecursion, All-from_recursion, Mesh, pair_lt, edge_count, ends, IsSurface, rising_at, edges_are_ordered}
+use Rattle.surf_class.proofs.Common.{passing_climb, passing_below, numbers_rise}
 
 pub edges_rise : (mesh : Mesh) (pass : ℕ → Bool) (n : ℕ) → n ≤ edge_count mesh →
     AllPairs (λ a b. pair_lt a b ≡ true) (map (ends mesh) (filter pass (range_with_len 0 n)))

@@ -1,11 +1,7 @@
 -- Sides of faces, along the tree.
-use Rattle.std.proofs.Common.{◌≡◌, ◌≢◌, ℕ, ◌<◌, Bool, true, false, not, List, length, get_or, set, unwrap_or, Option, Some, None, IsSome, refl, sym, ap, ◌∙◌, subst, arith, rules, inl, inr, get_or-set_same, get_or-set_other, length-set}
+use Rattle.surf_cert.proofs.Common.{◌≡◌, ◌≢◌, ℕ, ◌<◌, Bool, true, false, not, List, length, get_or, set, unwrap_or, Option, Some, None, IsSome, refl, sym, ap, ◌∙◌, subst, arith, rules, inl, inr, get_or-set_same, get_or-set_other, length-set, option_eq, cases_eq, true≢false, xor, Mesh, face_count}
+use Rattle.surf_class.proofs.Common.{xors, xor_back, CotreeTables, IsParted, AreSidesOf, side_at}
 use mathlib.Core.Bool.{beq}
-use Rattle.std.specs.Option.{option_eq}
-use Rattle.surf_surfaces.proofs.Common.{cases_eq, true≢false, xor, Mesh, face_count}
-use Rattle.surf_z2.proofs.ParityLaws.{xors, xor_back}
-use Rattle.surf_cotree.specs.Tables.{CotreeTables}
-use Rattle.surf_class.specs.Sides.{IsParted, AreSidesOf, side_at}
 use Rattle.surf_class.proofs.StepEdges.{differ_is}
 
 -- whether a side is known and is the inside

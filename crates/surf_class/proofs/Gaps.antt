@@ -1,8 +1,6 @@
 -- Neighbours of a list that no edge joins.
-use Rattle.surf_surfaces.proofs.Common.{◌≡◌, ℕ, ◌<◌, ◌≤◌, ◌+◌, ◌-◌, true, false, not, List, [], ◌∷◌, length, get_or, Some, None, sym, ap, ◌∙◌, arith, inl, inr, position, cases_lt, get_or_default, Mesh, pair, pair_of, pair_eq, among, edges, steps, edge_count, ends}
-use Rattle.surf_surfaces.proofs.meshes.EdgeLaws.{list_any_from}
-use Rattle.surf_surfaces.proofs.meshes.PairLaws.{pair_eq-same}
-use Rattle.surf_treecheck.proofs.Steps.{steps_at, count_steps}
+use Rattle.surf_cert.proofs.Common.{◌≡◌, ℕ, ◌<◌, ◌≤◌, ◌+◌, ◌-◌, true, false, not, List, [], ◌∷◌, length, get_or, Some, None, sym, ap, ◌∙◌, arith, inl, inr, position, cases_lt, get_or_default, Mesh, pair, pair_of, pair_eq, among, edges, steps, edge_count, ends, list_any_from, pair_eq-same}
+use Rattle.surf_class.proofs.Common.{steps_at, count_steps}
 use Rattle.surf_class.proofs.Lists.{position_at, position_none}
 
 no_steps : (list : List ℕ) → length list ≤ 0 → (k : ℕ) → k < length (steps list) → ⊥

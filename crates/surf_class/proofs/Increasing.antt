@@ -1,7 +1,6 @@
 -- Increasing lists of numbers and of pairs.
-use Rattle.surf_surfaces.proofs.Common.{◌≡◌, ℕ, ◌<◌, true, nat_lt, List, [], ◌∷◌, AllPairs, All, arith, AllByRecursion, ltb-true, lt-ltb, All-from_recursion, pair_lt}
-use Rattle.surf_surfaces.proofs.meshes.PairLaws.{pair_lt-trans}
-use Rattle.surf_class.specs.Evidences.{is_rising, is_ordered}
+use Rattle.surf_cert.proofs.Common.{◌≡◌, ℕ, ◌<◌, true, nat_lt, List, [], ◌∷◌, AllPairs, All, arith, AllByRecursion, ltb-true, lt-ltb, All-from_recursion, pair_lt, pair_lt-trans}
+use Rattle.surf_class.proofs.Common.{is_rising, is_ordered}
 use Rattle.surf_class.proofs.Lists.{pairs_of_rising, and_first, and_second}
 
 less_trans : (a b c : ℕ) → nat_lt a b ≡ true → nat_lt b c ≡ true → nat_lt a c ≡ true

@@ -1,9 +1,6 @@
 -- Listed numbers and pairs that are none of the mesh, the least.
-use Rattle.surf_surfaces.proofs.Common.{◌≡◌, ℕ, ◌<◌, ◌≤◌, true, false, eqb, List, length, get_or, AllPairs, Option, Some, None, refl, sym, ap, ◌∙◌, subst, arith, inl, inr, cases_order, eq-eqb, eqb-true, true≢false, get_or_default, Mesh, pair_eq, pair_lt, among, edges, face_count}
-use Rattle.std.specs.Option.{MatchOption, is_some}
-use Rattle.surf_surfaces.proofs.meshes.EdgeLaws.{list_any_at, list_any_from}
-use Rattle.surf_surfaces.proofs.meshes.PairLaws.{pair_eq-same, pair_eq-true, pair_lt-trans, pair_lt-irreflexive}
-use Rattle.surf_classes.specs.Faults.{IsNoFace, IsNoPair}
+use Rattle.surf_cert.proofs.Common.{◌≡◌, ℕ, ◌<◌, ◌≤◌, true, false, eqb, List, length, get_or, AllPairs, Option, Some, None, refl, sym, ap, ◌∙◌, subst, arith, inl, inr, cases_order, eq-eqb, eqb-true, true≢false, get_or_default, Mesh, pair_eq, pair_lt, among, edges, face_count, MatchOption, is_some, list_any_at, list_any_from, pair_eq-same, pair_eq-true, pair_lt-trans, pair_lt-irreflexive}
+use Rattle.surf_class.proofs.Common.{IsNoFace, IsNoPair}
 
 pub no_face_at : (mesh : Mesh) (faces : List ℕ) (i f : ℕ) → AllPairs (λ a b. a < b) faces → i < length faces →
     f ≡ get_or faces i f → face_count mesh ≤ f → ((k : ℕ) → k < i → get_or faces k 0 < face_count mesh) →

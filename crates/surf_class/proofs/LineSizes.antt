@@ -1,9 +1,5 @@
 -- The lines of a text are no longer than it, and have tokens.
-use Rattle.surf_surfaces.proofs.Common.{◌≡◌, ℕ, suc, ◌<◌, ◌≤◌, ◌+◌, Bool, List, [], ◌∷◌, length, refl, ap, ◌∙◌, subst, arith, inl, inr, cases_Bool, AllByRecursion, slice_split, onto_first, before_first, position_or_len, length-filter, count_by-le-length, length-take, length-slice_split}
-use Rattle.surf_text.specs.Text.{TextLine, is_blank, is_nonempty, is_line_end, is_comment_sign, uncommented, trimmed_front, before_some, trimmed_back, trimmed, words_of, tokens_of, onto_lines, numbered_from, lines_of}
-use Rattle.surf_text.proofs.Words.{words_trimmed}
-use Rattle.surf_off.proofs.CleanLines.{AllClean, clean_lines}
-use Rattle.surf_off.proofs.NumberLines.{uncommented_is}
+use Rattle.surf_cert.proofs.Common.{◌≡◌, ℕ, suc, ◌<◌, ◌≤◌, ◌+◌, Bool, List, [], ◌∷◌, length, refl, ap, ◌∙◌, subst, arith, inl, inr, cases_Bool, AllByRecursion, slice_split, onto_first, before_first, position_or_len, length-filter, count_by-le-length, length-take, length-slice_split, TextLine, is_blank, is_nonempty, is_line_end, is_comment_sign, uncommented, trimmed_front, before_some, trimmed_back, trimmed, words_of, tokens_of, onto_lines, numbered_from, lines_of, words_trimmed, AllClean, clean_lines, uncommented_is}
 
 front_short : (bs : List ℕ) → length (trimmed_front bs) ≤ length bs
 front_short [] = omega arith

@@ -1,8 +1,7 @@
 -- Lists, place by place.
-use Rattle.surf_surfaces.proofs.Common.{◌≡◌, ℕ, zero, suc, ◌<◌, ◌≤◌, ◌+◌, Bool, true, false, ◌&&◌, List, [], ◌∷◌, ◌++◌, length, get_or, take, drop, nat_lt, ltb, cond, AllPairs, Some, None, refl, sym, ap, ◌∙◌, arith, inl, inr, position, position_or_len, cases_Bool, cases_lt, lt-ltb, le-ltb, true≢false, take-suc}
-use Rattle.std.proofs.lemmas.List.{take-append-le, take_all}
-use Rattle.std.proofs.lemmas.List.Sums.{position_or_len_is, fails_before_first}
-use Rattle.surf_class.specs.Evidences.{rises_from, is_rising}
+use Rattle.surf_cert.proofs.Common.{◌≡◌, ℕ, zero, suc, ◌<◌, ◌≤◌, ◌+◌, Bool, true, false, ◌&&◌, List, [], ◌∷◌, ◌++◌, length, get_or, take, drop, nat_lt, ltb, cond, AllPairs, Some, None, refl, sym, ap, ◌∙◌, arith, inl, inr, position, position_or_len, cases_Bool, cases_lt, lt-ltb, le-ltb, true≢false, take-suc, take-append-le, take_all, position_or_len_is}
+use Rattle.surf_class.proofs.Common.{rises_from, is_rising}
+use Rattle.std.proofs.lemmas.List.Sums.{fails_before_first}
 
 pub and_first : (a b : Bool) → (a && b) ≡ true → a ≡ true
 and_first true b h = refl

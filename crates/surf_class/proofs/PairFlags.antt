@@ -1,8 +1,6 @@
 -- The pairs that are sides of a face.
-use Rattle.surf_surfaces.proofs.Common.{◌≡◌, ℕ, ◌<◌, true, ◌&&◌, List, map, AllPairs, All, Contains, sym, ap, ◌∙◌, odd, odd_below-same, and_comm, Mesh, edges, pair_lt, among, pair_eq, face_count, edge_count, borders, ends, IsSurface, edge_number}
-use Rattle.surf_surfaces.proofs.meshes.EdgeLaws.{list_any_at, among-contains}
-use Rattle.surf_surfaces.proofs.meshes.PairLaws.{pair_eq-true}
-use Rattle.surf_classes.specs.Evidence.{has_odd_sides}
+use Rattle.surf_cert.proofs.Common.{◌≡◌, ℕ, ◌<◌, true, ◌&&◌, List, map, AllPairs, All, Contains, sym, ap, ◌∙◌, odd, odd_below-same, and_comm, Mesh, edges, pair_lt, among, pair_eq, face_count, edge_count, borders, ends, IsSurface, edge_number, list_any_at, among-contains, pair_eq-true}
+use Rattle.surf_class.proofs.Common.{has_odd_sides}
 use Rattle.surf_classes.proofs.PairSums.{odd_sums_are_sums_over_edges}
 
 listed_edges : (mesh : Mesh) (pairs : List (ℕ × ℕ)) → All (Contains (edges mesh)) pairs → (p : ℕ × ℕ) →

@@ -1,7 +1,6 @@
 -- The text of pairs.
-use Rattle.std.proofs.Common.{◌≡◌, ℕ, List, [], ◌∷◌, ◌++◌, sym, ap, ◌∙◌, append_assoc, append-nil, decimal}
-use Rattle.surf_text.specs.Numbers.{numbers_text}
-use Rattle.surf_class.specs.Texts.{both_ends}
+use Rattle.surf_cert.proofs.Common.{◌≡◌, ℕ, List, [], ◌∷◌, ◌++◌, sym, ap, ◌∙◌, append_assoc, append-nil, decimal, numbers_text}
+use Rattle.surf_class.proofs.Common.{both_ends}
 
 abbrev pub end_text : ℕ × ℕ → List ℕ
 end_text p = numbers_text (p.0 ∷ p.1 ∷ [])

@@ -1,7 +1,6 @@
 -- What a file of vertices says, stage by stage.
-use Rattle.surf_surfaces.proofs.Common.{◌≡◌, ℕ, ◌<◌, nat_le, List, [], ◌∷◌, get_or, None, Ok, Err, refl, ap, ◌∙◌, All, position, All-from_get_or, Mesh, leb-false}
-use Rattle.surf_text.specs.Text.{TextLine, tokens_of, lines_of}
-use Rattle.surf_class.specs.Numbers.{numbers_from}
+use Rattle.surf_cert.proofs.Common.{◌≡◌, ℕ, ◌<◌, nat_le, List, [], ◌∷◌, get_or, None, Ok, Err, refl, ap, ◌∙◌, All, position, All-from_get_or, Mesh, leb-false, TextLine, tokens_of, lines_of}
+use Rattle.surf_class.proofs.Common.{numbers_from}
 use Rattle.surf_class.specs.Points.{points_of, points_in, if_alone}
 use Rattle.surf_class.specs.declared.points.PointFault.TheVariants.{Trailing}
 use Rattle.surf_class.proofs.Lists.{none_passes}

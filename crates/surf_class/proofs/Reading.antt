@@ -1,9 +1,7 @@
 -- The numbers of tokens, one after the other.
-use Rattle.std.proofs.Common.{◌≡◌, ℕ, ◌+◌, List, [], ◌∷◌, ◌++◌, length, Some, None, Result, Ok, Err, refl, sym, ◌∙◌, ap, append_assoc, append-nil, length-append}
-use Rattle.surf_cert.specs.Lines.{cert_number}
-use Rattle.surf_class.specs.declared.numbers.NumberFault.{NumberFault}
-use Rattle.surf_class.specs.declared.numbers.NumberFault.TheVariants.{Bad}
-use Rattle.surf_class.specs.Numbers.{onto_numbers, numbers_from}
+use Rattle.surf_cert.proofs.Common.{◌≡◌, ℕ, ◌+◌, List, [], ◌∷◌, ◌++◌, length, Some, None, Result, Ok, Err, refl, sym, ◌∙◌, ap, append_assoc, append-nil, length-append, cert_number}
+use Rattle.surf_class.proofs.Common.{NumberFault, Bad, onto_numbers}
+use Rattle.surf_class.specs.Numbers.{numbers_from}
 
 -- the numbers that were read before, and those that are still read
 abbrev pub with_front : List ℕ → Result (List ℕ) NumberFault → Result (List ℕ) NumberFault

@@ -1,14 +1,9 @@
 -- What is written of evidence is read as that evidence.
-use Rattle.surf_surfaces.proofs.Common.{◌≡◌, ℕ, zero, suc, ◌<◌, ◌+◌, ◌*◌, ◌^◌, true, nat_lt, ltb, eqb, List, [], ◌∷◌, ◌++◌, length, get_or, map, All, Ok, refl, sym, ap, ◌∙◌, arith, codes, decimal, append_assoc, lt-ltb, eq-eqb, pair_lt}
-use Rattle.surf_off.proofs.Decimals.{IsWord, word_decimal}
-use Rattle.surf_records.specs.Fits.{IsNumber, IsPair}
-use Rattle.surf_text.specs.Numbers.{numbers_text}
+use Rattle.surf_cert.proofs.Common.{◌≡◌, ℕ, zero, suc, ◌<◌, ◌+◌, ◌*◌, ◌^◌, true, nat_lt, ltb, eqb, List, [], ◌∷◌, ◌++◌, length, get_or, map, All, Ok, refl, sym, ap, ◌∙◌, arith, codes, decimal, append_assoc, lt-ltb, eq-eqb, pair_lt, IsWord, word_decimal, IsNumber, IsPair, numbers_text}
+use Rattle.surf_class.proofs.Common.{null_faces, odd_pairs, is_rising, is_ordered, two_by_two, face_numbers, pair_numbers, counted, if_formed, evidence_of, if_alone, evidence_on, evidence_in, counted_text, both_ends, FacesFit, PairsFit, EvidenceIsReread}
 use Rattle.surf_cert.proofs.LineTexts.{number_again}
 use Rattle.surf_cert.proofs.WordLines.{spaced, line_of, AllWords, line_first, kept_is}
-use Rattle.surf_classes.specs.Evidence.{null_faces, odd_pairs}
 use Rattle.surf_class.specs.Numbers.{numbers_from}
-use Rattle.surf_class.specs.Evidences.{is_rising, is_ordered, two_by_two, face_numbers, pair_numbers, counted, if_formed, evidence_of, if_alone, evidence_on, evidence_in}
-use Rattle.surf_class.specs.Texts.{counted_text, both_ends, FacesFit, PairsFit, EvidenceIsReread}
 use Rattle.surf_class.proofs.Lists.{rising_all}
 
 small : (n : ℕ) → IsNumber n → n < 2 ^ 64

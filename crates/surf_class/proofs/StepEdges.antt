@@ -1,11 +1,9 @@
 -- The edges of steps and pairs, and flags that are turned.
-use Rattle.surf_surfaces.proofs.Common.{◌≡◌, ℕ, ◌<◌, ◌+◌, Bool, true, false, not, eqb, List, [], ◌∷◌, length, get_or, set, take, map, refl, sym, ap, ◌∙◌, Contains, arith, inl, inr, get_or-set_same, get_or-set_other, cases_eq, eq-eqb, ne_eqb, true≢false, get_or_default, map-append, xor, odd, Mesh, pair, pair_of, pair_eq, edges, among, steps, edge_count, ends, borders, faces_of, IsSurface, IsClosed, edge_number, place_of}
+use Rattle.surf_cert.proofs.Common.{◌≡◌, ℕ, ◌<◌, ◌+◌, Bool, true, false, not, eqb, List, [], ◌∷◌, length, get_or, set, take, map, refl, sym, ap, ◌∙◌, Contains, arith, inl, inr, get_or-set_same, get_or-set_other, cases_eq, eq-eqb, ne_eqb, true≢false, get_or_default, map-append, xor, odd, Mesh, pair, pair_of, pair_eq, edges, among, steps, edge_count, ends, borders, faces_of, IsSurface, IsClosed, edge_number, place_of, place_of-ends, ends-eq, among-contains, list_any_from, pair_eq-same}
+use Rattle.surf_class.proofs.Common.{odd-append, steps_at, one_along}
 use mathlib.Core.Bool.{beq}
-use Rattle.surf_z2.proofs.ParityLaws.{xor-false, xor_assoc, odd-append}
-use Rattle.surf_surfaces.proofs.meshes.EdgeLaws.{place_of-ends, ends-eq, among-contains, list_any_from}
-use Rattle.surf_surfaces.proofs.meshes.PairLaws.{pair_eq-same}
+use Rattle.surf_z2.proofs.ParityLaws.{xor-false, xor_assoc}
 use Rattle.surf_surfaces.proofs.meshes.SurfaceLaws.{two_faces_of, one_of_two}
-use Rattle.surf_treecheck.proofs.Steps.{steps_at, one_along}
 use Rattle.surf_class.proofs.Lists.{take_next}
 
 -- the number of the edge with these ends

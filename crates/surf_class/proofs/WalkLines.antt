@@ -1,12 +1,8 @@
 -- What a walk file says, stage by stage.
-use Rattle.surf_surfaces.proofs.Common.{◌≡◌, ℕ, suc, ◌<◌, ◌+◌, Bool, true, false, not, nat_le, eqb, List, [], ◌∷◌, length, get_or, Option, Some, None, Result, Ok, Err, refl, sym, ap, ◌∙◌, subst, arith, position, get_or_default, Mesh, pair_of, among, steps, edges, leb-false, eqb-true, first, last, IsClosed}
-use Rattle.surf_text.specs.Text.{TextLine, tokens_of, lines_of}
-use Rattle.surf_surfaces.proofs.meshes.EdgeLaws.{contains_from_among}
-use Rattle.surf_cert.specs.Lines.{cert_number}
-use Rattle.surf_class.specs.Numbers.{onto_numbers, numbers_from}
-use Rattle.surf_base.specs.Gives.{◌>>=◌}
+use Rattle.surf_cert.proofs.Common.{◌≡◌, ℕ, suc, ◌<◌, ◌+◌, Bool, true, false, not, nat_le, eqb, List, [], ◌∷◌, length, get_or, Option, Some, None, Result, Ok, Err, refl, sym, ap, ◌∙◌, subst, arith, position, get_or_default, Mesh, pair_of, among, steps, edges, leb-false, eqb-true, first, last, IsClosed, TextLine, tokens_of, lines_of, contains_from_among, cert_number, ◌>>=◌}
+use Rattle.surf_class.proofs.Common.{onto_numbers, NumberFault}
+use Rattle.surf_class.specs.Numbers.{numbers_from}
 use Rattle.surf_class.specs.Walks.{walk_of, walk_in, if_joined, if_closed, if_alone}
-use Rattle.surf_class.specs.declared.numbers.NumberFault.{NumberFault}
 use Rattle.surf_class.specs.declared.fault.WalkFault.TheVariants.{NotEdge, Unclosed, Trailing}
 use Rattle.surf_class.proofs.Lists.{none_passes}
 use Rattle.surf_class.proofs.LineSizes.{some_token}

@@ -1,11 +1,6 @@
-use Rattle.std.proofs.Common.{ℕ, suc, ◌<◌, ◌≤◌, ◌≡◌, ◌≢◌, ◌+◌, ◌-◌, ◌⊎◌, refl, sym, ap, ◌∙◌, subst, arith, inl, inr, List, length, set, None, Bool, true, false, cond, not, ◌&&◌, ◌||◌, eqb, ltb, leb, eq-eqb, ne_eqb, eqb-true, get_or-set_same, get_or-set_other}
-use Rattle.surf_surfaces.proofs.Common.{cases_eq, cases_Bool, lt-ltb, le-ltb, le-leb, leb-true, ltb-true, and_parts, or_cases, false≢true, not-true, Tree, IsTree, on_path, xor-same, joins_turned, joins_ends, count_below, count_below-without, count_below-same, count_below-all, Graph, IsGraph, joins, leaves, one_of, path_inside}
-use Rattle.surf_graphs.specs.Growth.{with_node, with_edge, inner_end, between}
+use Rattle.surf_cotree.proofs.Common.{ℕ, suc, ◌<◌, ◌≤◌, ◌≡◌, ◌≢◌, ◌+◌, ◌-◌, ◌⊎◌, refl, sym, ap, ◌∙◌, subst, arith, inl, inr, List, length, set, None, Bool, true, false, cond, not, ◌&&◌, ◌||◌, eqb, ltb, leb, eq-eqb, ne_eqb, eqb-true, get_or-set_same, get_or-set_other, cases_eq, cases_Bool, lt-ltb, le-ltb, le-leb, leb-true, ltb-true, and_parts, or_cases, false≢true, not-true, Tree, IsTree, on_path, xor-same, joins_turned, joins_ends, count_below, count_below-without, count_below-same, count_below-all, Graph, IsGraph, joins, leaves, one_of, path_inside, with_node, with_edge, inner_end, between, Entries, entry_of, IsLeastEntry, IsEmpty, at, nobody, heaviest, IsPairUpTo, lighter, reached, HasPair, IsOffered, IsWaiting, IsPrim, spanned_tree, IsHeaviestTree}
 use Rattle.surf_graphs.proofs.Growth.{grow_one, old_node}
 use Rattle.surf_graphs.proofs.Heavy.{grow_heavy}
-use Rattle.surf_heap.specs.Entries.{Entries, entry_of, IsLeastEntry, IsEmpty}
-use Rattle.surf_base.specs.Tables.{at, nobody}
-use Rattle.surf_cotree.specs.Searches.{heaviest, IsPairUpTo, lighter, reached, HasPair, IsOffered, IsWaiting, IsPrim, spanned_tree, IsHeaviestTree}
 use Rattle.surf_cotree.proofs.Pairs.{no_entry, pair_trans, pair_from}
 
 -- the allowed edges join all nodes

@@ -1,13 +1,6 @@
 -- Leaves are hung on the tree again, the last first.
-use Rattle.std.proofs.Common.{ℕ, suc, ◌<◌, ◌≤◌, ◌≡◌, ◌≢◌, ◌+◌, ◌-◌, ◌⊎◌, refl, sym, ap, ◌∙◌, subst, arith, inl, inr, List, length, set, Some, None, Bool, true, false, not, eqb, eq-eqb, ne_eqb, get_or-set_same, get_or-set_other}
-use Rattle.std.proofs.Math.ListN.{length-set}
-use Rattle.surf_surfaces.proofs.Common.{cases_eq, cases_Bool, and_parts, false≢true, not-true, xor, count_below, xor-same, on_path, one_of, joins_ends, joins_turned, Graph, IsGraph, joins, leaves}
-use Rattle.surf_graphs.specs.Growth.{Grown, IsHeavy, inner_end}
-use Rattle.surf_heap.specs.Entries.{Entries, entry_of, IsEmpty, IsLeastEntry}
-use Rattle.surf_base.specs.Tables.{nobody, at}
-use Rattle.surf_cotree.specs.Searches.{heaviest, reached, lighter, spanned_tree, HasPair, IsOffered, IsWaiting, IsPrim, IsHeaviestTree}
+use Rattle.surf_cotree.proofs.Common.{ℕ, suc, ◌<◌, ◌≤◌, ◌≡◌, ◌≢◌, ◌+◌, ◌-◌, ◌⊎◌, refl, sym, ap, ◌∙◌, subst, arith, inl, inr, List, length, set, Some, None, Bool, true, false, not, eqb, eq-eqb, ne_eqb, get_or-set_same, get_or-set_other, length-set, cases_eq, cases_Bool, and_parts, false≢true, not-true, xor, count_below, xor-same, on_path, one_of, joins_ends, joins_turned, Graph, IsGraph, joins, leaves, Grown, IsHeavy, inner_end, Entries, entry_of, IsEmpty, IsLeastEntry, nobody, at, heaviest, reached, lighter, spanned_tree, HasPair, IsOffered, IsWaiting, IsPrim, IsHeaviestTree, Leaf, leaf_at, left_after, IsLeaf, IsPeeled, IsHung}
 use Rattle.surf_cotree.proofs.Growing.{Connects, turn_keeps, depth_fits, prim_ends}
-use Rattle.surf_cotree.specs.Peeling.{Leaf, leaf_at, left_after, IsLeaf, IsPeeled, IsHung}
 use Rattle.surf_cotree.proofs.Pairs.{no_entry, same_pair}
 
 -- the ends of an edge by two nodes that it joins

@@ -1,8 +1,5 @@
 -- One turn of the hanging, in which a leaf is told by its edge.
-use Rattle.surf_surfaces.proofs.Common.{ℕ, ◌<◌, ◌≤◌, ◌≡◌, ◌+◌, ◌-◌, ◌⊎◌, refl, sym, ap, ◌∙◌, subst, arith, inl, inr, List, length, set, Bool, true, false, false≢true, Graph, IsGraph, joins}
-use Rattle.surf_base.specs.Tables.{nobody, at}
-use Rattle.surf_cotree.specs.Searches.{reached}
-use Rattle.surf_cotree.specs.Peeling.{Leaf, leaf_at, IsLeaf, IsHungBy}
+use Rattle.surf_cotree.proofs.Common.{ℕ, ◌<◌, ◌≤◌, ◌≡◌, ◌+◌, ◌-◌, ◌⊎◌, refl, sym, ap, ◌∙◌, subst, arith, inl, inr, List, length, set, Bool, true, false, false≢true, Graph, IsGraph, joins, nobody, at, reached, Leaf, leaf_at, IsLeaf, IsHungBy}
 use Rattle.surf_cotree.proofs.Hanging.{face_in, next_in, turn_free, turn_joined, turn_none, turn_fits, turn_one}
 
 -- of the two ends of an edge the first one is that which isn't reached

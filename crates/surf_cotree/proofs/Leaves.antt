@@ -1,11 +1,5 @@
 -- Faces that hang on the others by one edge are taken off.
-use Rattle.std.proofs.Common.{ℕ, zero, suc, ◌<◌, ◌≤◌, ◌≡◌, ◌≢◌, ◌+◌, refl, sym, ap, ◌∙◌, subst, arith, inl, inr, List, [], ◌∷◌, ◌++◌, length, set, Option, Some, None, Bool, true, false, not, ◌&&◌, eqb, eq-eqb, ne_eqb, map, get_or-set_same, get_or-set_other}
-use Rattle.std.proofs.Math.ListN.{length-set}
-use Rattle.std.specs.Option.{IfSome, is_some}
-use Rattle.surf_surfaces.proofs.Common.{cases_eq, false≢true, nat_tests, length-map, length_push, get_or_push, get_or_append_left, count_below, count_below-without, count_below-same, Graph, joins}
-use Rattle.surf_mesh.specs.Links.{link_at, IsRow}
-use Rattle.surf_cotree.specs.Searches.{outside}
-use Rattle.surf_cotree.specs.Peeling.{Leaf, leaf_at, left_after, IsOnlyEdge, IsLeaf, IsPeeled, IsPeeledBy, IsPeeledTo}
+use Rattle.surf_cotree.proofs.Common.{ℕ, zero, suc, ◌<◌, ◌≤◌, ◌≡◌, ◌≢◌, ◌+◌, refl, sym, ap, ◌∙◌, subst, arith, inl, inr, List, [], ◌∷◌, ◌++◌, length, set, Option, Some, None, Bool, true, false, not, ◌&&◌, eqb, eq-eqb, ne_eqb, map, get_or-set_same, get_or-set_other, length-set, IfSome, is_some, cases_eq, false≢true, nat_tests, length-map, length_push, get_or_push, get_or_append_left, count_below, count_below-without, count_below-same, Graph, joins, link_at, IsRow, outside, Leaf, leaf_at, left_after, IsOnlyEdge, IsLeaf, IsPeeled, IsPeeledBy, IsPeeledTo}
 
 -- of the edges of the first n sides of a row just that of this side is left (IsOnlyEdge is of all its edges), or none is
 abbrev pub IsOnlySoFar : (ℕ → Bool) → (ℕ → ℕ × ℕ) → (ℕ → ℕ × ℕ) → ℕ → Option ℕ → Type 0

@@ -1,3 +1,4 @@
+pub mod Common
 pub mod Faces
 pub mod Pairs
 pub mod Growing

@@ -1,11 +1,5 @@
 -- For marked edges there are tables in which all leaves are hung.
-use Rattle.std.proofs.Common.{ℕ, zero, suc, ◌<◌, ◌≤◌, ◌≡◌, ◌≢◌, ◌+◌, refl, sym, ap, ◌∙◌, subst, arith, inl, inr, List, length, set, Bool, true, false, not, eqb, eq-eqb, ne_eqb, get_or-set_same, get_or-set_other}
-use Rattle.std.proofs.Math.ListN.{length-set}
-use Rattle.surf_surfaces.proofs.Common.{cases_eq, cases_Bool, and_parts, false≢true, Graph, IsGraph, joins, joins_turned}
-use Rattle.surf_base.specs.Tables.{nobody, at}
-use Rattle.surf_cotree.specs.Searches.{reached, spanned_tree}
-use Rattle.surf_cotree.specs.Peeling.{Leaf, leaf_at, left_after, IsLeaf, IsHung}
-use Rattle.surf_cotree.specs.Marking.{AreMarked}
+use Rattle.surf_cotree.proofs.Common.{ℕ, zero, suc, ◌<◌, ◌≤◌, ◌≡◌, ◌≢◌, ◌+◌, refl, sym, ap, ◌∙◌, subst, arith, inl, inr, List, length, set, Bool, true, false, not, eqb, eq-eqb, ne_eqb, get_or-set_same, get_or-set_other, length-set, cases_eq, cases_Bool, and_parts, false≢true, Graph, IsGraph, joins, joins_turned, nobody, at, reached, spanned_tree, Leaf, leaf_at, left_after, IsLeaf, IsHung, AreMarked}
 use Rattle.surf_cotree.proofs.Growing.{Connects, all_reached}
 use Rattle.surf_cotree.proofs.Hanging.{unreached, hang_none, hang_one, hang_fits}
 use Rattle.surf_cotree.proofs.Marks.{marks_hung}

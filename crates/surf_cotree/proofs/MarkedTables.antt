@@ -1,13 +1,5 @@
 -- The edges that are found without tables are those of tables.
-use Rattle.surf_surfaces.proofs.Common.{ℕ, ◌<◌, ◌≤◌, ◌≡◌, ◌≢◌, refl, sym, ap, ◌∙◌, subst, arith, List, length, filter, replicate, Bool, true, false, not, ◌&&◌, ◌||◌, range_with_len, false≢true, Graph, dual, Mesh, edge_count, face_count, IsSurface, loop_count, cells_of}
-use Rattle.std.proofs.Math.ListN.{length-replicate}
-use Rattle.surf_signatures.proofs.Passing.{passing_same}
-use Rattle.surf_base.specs.Tables.{nobody, at}
-use Rattle.surf_cotree.specs.Tables.{CotreeTables, width_for}
-use Rattle.surf_cotree.specs.Searches.{heaviest, flag, outside, is_unmarked, spanned_tree, IsHeaviestTree}
-use Rattle.surf_cotree.specs.Peeling.{left_after, IsPeeledTo}
-use Rattle.surf_cotree.specs.Marking.{leads_up, AreMarked, HasMarking}
-use Rattle.surf_cotree.specs.Grown.{MarkTree, HasGrown}
+use Rattle.surf_cotree.proofs.Common.{ℕ, ◌<◌, ◌≤◌, ◌≡◌, ◌≢◌, refl, sym, ap, ◌∙◌, subst, arith, List, length, filter, replicate, Bool, true, false, not, ◌&&◌, ◌||◌, range_with_len, false≢true, Graph, dual, Mesh, edge_count, face_count, IsSurface, loop_count, cells_of, length-replicate, passing_same, nobody, at, CotreeTables, width_for, heaviest, flag, outside, is_unmarked, spanned_tree, IsHeaviestTree, left_after, IsPeeledTo, leads_up, AreMarked, HasMarking, MarkTree, HasGrown}
 use Rattle.surf_cotree.proofs.Faces.{graph_is}
 use Rattle.surf_cotree.proofs.Growing.{Connects}
 use Rattle.surf_cotree.proofs.Hanging.{hung_first, hung_all}

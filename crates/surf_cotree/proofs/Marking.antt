@@ -1,11 +1,5 @@
 -- A search that marks edges has tables.
-use Rattle.std.proofs.Common.{ℕ, ◌<◌, ◌≤◌, ◌≡◌, ◌≢◌, ◌+◌, ◌-◌, refl, sym, ap, ◌∙◌, subst, arith, inl, inr, List, length, set, replicate, None, Bool, true, false, not, ◌&&◌, eqb, ne_eqb, get_or-set_same, get_or-set_other}
-use Rattle.std.proofs.Math.ListN.{length-set, length-replicate}
-use Rattle.surf_surfaces.proofs.Common.{cases_eq, cases_Bool, and_parts, false≢true, get_or-replicate, count_below, Graph, IsGraph, joins, one_of}
-use Rattle.surf_heap.specs.Entries.{Entries, IsLeastEntry, IsEmpty}
-use Rattle.surf_base.specs.Tables.{nobody, at}
-use Rattle.surf_cotree.specs.Searches.{heaviest, flag, outside, reached, spanned_tree, IsOffered, IsWaiting}
-use Rattle.surf_cotree.specs.Marking.{leads_up, IsMarking}
+use Rattle.surf_cotree.proofs.Common.{ℕ, ◌<◌, ◌≤◌, ◌≡◌, ◌≢◌, ◌+◌, ◌-◌, refl, sym, ap, ◌∙◌, subst, arith, inl, inr, List, length, set, replicate, None, Bool, true, false, not, ◌&&◌, eqb, ne_eqb, get_or-set_same, get_or-set_other, length-set, length-replicate, cases_eq, cases_Bool, and_parts, false≢true, get_or-replicate, count_below, Graph, IsGraph, joins, one_of, Entries, IsLeastEntry, IsEmpty, nobody, at, heaviest, flag, outside, reached, spanned_tree, IsOffered, IsWaiting, leads_up, IsMarking}
 use Rattle.surf_cotree.proofs.Growing.{first_count, first_only, prim_begins, depth_fits, turn_keeps}
 use Rattle.surf_cotree.proofs.Hanging.{other_end}
 use Rattle.surf_cotree.proofs.Leaves.{outside_set}

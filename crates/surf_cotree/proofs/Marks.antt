@@ -1,10 +1,5 @@
 -- Marks on the edges that lead up in a tree, while it grows.
-use Rattle.std.proofs.Common.{ℕ, suc, ◌<◌, ◌≡◌, ◌≢◌, refl, sym, ap, ◌∙◌, inl, inr, List, length, set, Bool, true, false, not, ◌&&◌, ◌||◌, eqb, eq-eqb, ne_eqb, eqb-true, get_or-set_same, get_or-set_other}
-use Rattle.surf_surfaces.proofs.Common.{cases_eq, cases_Bool, and_parts, false≢true, any_below-found, any_below-from, any_below-same}
-use Rattle.surf_base.specs.Tables.{nobody, at}
-use Rattle.surf_cotree.specs.Searches.{flag, outside}
-use Rattle.surf_cotree.specs.Peeling.{Leaf, leaf_at, left_after}
-use Rattle.surf_cotree.specs.Marking.{leads_up, AreMarked}
+use Rattle.surf_cotree.proofs.Common.{ℕ, suc, ◌<◌, ◌≡◌, ◌≢◌, refl, sym, ap, ◌∙◌, inl, inr, List, length, set, Bool, true, false, not, ◌&&◌, ◌||◌, eqb, eq-eqb, ne_eqb, eqb-true, get_or-set_same, get_or-set_other, cases_eq, cases_Bool, and_parts, false≢true, any_below-found, any_below-from, any_below-same, nobody, at, flag, outside, Leaf, leaf_at, left_after, leads_up, AreMarked}
 
 up_is : (up : List ℕ) (f e : ℕ) → (not (eqb (at up f) nobody) && eqb (at up f) e) ≡ true → (at up f ≢ nobody) × (at up f ≡ e)
 up_is up f e h =

@@ -1,10 +1,4 @@
-use Rattle.std.proofs.Common.{ℕ, ◌<◌, ◌≤◌, ◌≡◌, ◌+◌, ◌-◌, ◌⊎◌, refl, sym, ap, ◌∙◌, subst, arith, inl, inr, List, length, set, Option, Some, None, replicate, Bool, true, false, cond, eq-eqb, ne_eqb, get_or-set_same, get_or-set_other}
-use Rattle.std.proofs.Math.ListN.{length-set, length-replicate}
-use Rattle.surf_surfaces.proofs.Common.{cases_eq, cases_lt, lt-ltb, le-ltb, get_or-replicate, get_or_past, Graph, joins_turned}
-use Rattle.surf_heap.specs.Entries.{Entries, entry_of, lesser, precedes, IsUpTo}
-use Rattle.surf_mesh.specs.Links.{link_at, IsRow}
-use Rattle.surf_base.specs.Tables.{nobody}
-use Rattle.surf_cotree.specs.Searches.{heaviest, IsPairUpTo, HasPair, IsOffered, IsBridge}
+use Rattle.surf_cotree.proofs.Common.{ℕ, ◌<◌, ◌≤◌, ◌≡◌, ◌+◌, ◌-◌, ◌⊎◌, refl, sym, ap, ◌∙◌, subst, arith, inl, inr, List, length, set, Option, Some, None, replicate, Bool, true, false, cond, eq-eqb, ne_eqb, get_or-set_same, get_or-set_other, length-set, length-replicate, cases_eq, cases_lt, lt-ltb, le-ltb, get_or-replicate, get_or_past, Graph, joins_turned, Entries, entry_of, lesser, precedes, IsUpTo, link_at, IsRow, nobody, heaviest, IsPairUpTo, HasPair, IsOffered, IsBridge}
 
 -- what the first n edges of a node's row offer (IsOffered is of all its edges)
 pub record IsOfferedSome (g : Graph) (allowed : ℕ → Bool) (weight : ℕ → ℕ) (in_tree : ℕ → Bool) (v : ℕ) (old new : Entries) (neighbour number : ℕ → ℕ) (n : ℕ) : Type 0 where

@@ -1,7 +1,5 @@
 -- The links of the sides of a face, in the order of their numbers.
-use Rattle.surf_surfaces.proofs.Common.{ℕ, ◌<◌, ◌≤◌, ◌≡◌, ◌+◌, ◌-◌, List, length, arith, map, range_with_len, get_or-map-range_with_len, length-map-range_with_len, dual, Mesh, IsSurface, face_count, face_at, first_side, cells_of}
-use Rattle.surf_mesh.specs.Links.{link_at, side_link, IsRow}
-use Rattle.surf_mesh.proofs.LinkLaws.{side_row}
+use Rattle.surf_cotree.proofs.Common.{ℕ, ◌<◌, ◌≤◌, ◌≡◌, ◌+◌, ◌-◌, List, length, arith, map, range_with_len, get_or-map-range_with_len, length-map-range_with_len, dual, Mesh, IsSurface, face_count, face_at, first_side, cells_of, link_at, side_link, IsRow, side_row}
 
 -- the links of the sides from one number to another one
 abbrev pub links : Mesh → ℕ → ℕ → List (ℕ × ℕ)

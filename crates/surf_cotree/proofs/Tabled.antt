@@ -1,16 +1,10 @@
 -- What the tables of a desk hold.
-use Rattle.std.proofs.Common.{ℕ, ◌<◌, ◌≤◌, ◌≡◌, ◌≢◌, ◌+◌, ◌⊎◌, refl, sym, ap, ◌∙◌, subst, arith, inl, inr, List, length, filter, get_or, Bool, true, false, cond, not, ◌&&◌, eqb, eq-eqb, ne_eqb, Some, None}
-use Rattle.surf_surfaces.proofs.Common.{range_with_len, cases_eq, not-true, and_parts, nat_tests, any_below, any_below-same, dual, IsSplit, Tree, in_tree, tree_edge, left_edges as left_count, Mesh, edge_count, face_count, faces_of, IsSurface, loop_count, cells_of, loop_length}
+use Rattle.surf_cotree.proofs.Common.{ℕ, ◌<◌, ◌≤◌, ◌≡◌, ◌≢◌, ◌+◌, ◌⊎◌, refl, sym, ap, ◌∙◌, subst, arith, inl, inr, List, length, filter, get_or, Bool, true, false, cond, not, ◌&&◌, eqb, eq-eqb, ne_eqb, Some, None, range_with_len, cases_eq, not-true, and_parts, nat_tests, any_below, any_below-same, dual, IsSplit, Tree, in_tree, tree_edge, Mesh, edge_count, face_count, faces_of, IsSurface, loop_count, cells_of, loop_length, passing_same, surfaces_are_cells, nobody, at, CotreeTables, cotree_of, AreCotreeTables, split_with, width_for, outside, is_unmarked, IsHeaviestTree, IsMarked, MarkTree, AreLoopLengths, IsGrown, IsGrownOn}
+use Rattle.surf_surfaces.proofs.Common.{left_edges as left_count}
 use Rattle.surf_graphs.proofs.CellLaws.{outside_joins}
-use Rattle.surf_signatures.proofs.Passing.{passing_same}
 use Rattle.surf_surfaces.specs.Cotree.{tree_edges, cotree_edges, is_left, left_edges, split_of, precedes, IsHeaviestCotree}
-use Rattle.surf_surfaces.proofs.meshes.CellLaws.{surfaces_are_cells}
 use Rattle.surf_surfaces.proofs.classes.CotreeLaws.{trees_split, not-false_is, between_inside}
-use Rattle.surf_base.specs.Tables.{nobody, at}
-use Rattle.surf_cotree.specs.Tables.{CotreeTables, cotree_of, AreCotreeTables, split_with, width_for}
-use Rattle.surf_cotree.specs.Searches.{outside, is_unmarked, IsHeaviestTree}
 use Rattle.surf_cotree.proofs.Growing.{Connects}
-use Rattle.surf_cotree.specs.Grown.{IsMarked, MarkTree, AreLoopLengths, IsGrown, IsGrownOn}
 
 -- ---- a grown desk
 

@@ -1,20 +1,8 @@
 -- The least vertex at which a round is shortest, found by searches from the lesser ends of some edges.
-use Rattle.surf_surfaces.proofs.Common.{◌≡◌, ◌≢◌, ℕ, ◌+◌, ◌^◌, ◌<◌, ◌≤◌, ◌⊎◌, true, refl, List, Option, None, Some, length, map, get_or, slice_index, bit_xor, sym, ap, ◌∙◌, subst, arith, inl, inr, MatchOption, cases_eq, cases_lt, length-map, get_or-map, has, Split, IsSplit, primal, joins, Tree, joins_ends, Mesh, IsSurface, ends, cells_of, ArePositive}
-use Rattle.std.proofs.lemmas.Option.{none-some, same_Some}
-use Rattle.surf_surfaces.proofs.meshes.CellLaws.{ends_below}
-use Rattle.surf_surfaces.proofs.classes.ClassLaws.{some_vertex}
-use Rattle.surf_classes.specs.Cover.{IsSet, IsSignedDistance, AreSignedDistances}
-use Rattle.surf_classes.proofs.Reached.{way_to, signed_distances_exist}
-use Rattle.surf_classes.proofs.SignedSteps.{xor_set, nearest_from, nearest_to}
-use Rattle.surf_mesh.specs.Links.{IsRow, edge_link}
-use Rattle.surf_cotree.specs.Tables.{CotreeTables, split_with}
-use Rattle.surf_tree.specs.Searches.{far}
-use Rattle.surf_cover.specs.Grown.{IsSigned}
-use Rattle.surf_cover.specs.Networks.{IsSignedBy}
-use Rattle.surf_cover.specs.Tables.{CoverTables, distance_at}
+use Rattle.surf_cotree.proofs.Common.{◌≡◌, ◌≢◌, ℕ, ◌+◌, ◌^◌, ◌<◌, ◌≤◌, ◌⊎◌, true, refl, List, Option, None, Some, length, map, get_or, slice_index, bit_xor, sym, ap, ◌∙◌, subst, arith, inl, inr, MatchOption, cases_eq, cases_lt, length-map, get_or-map, has, Split, IsSplit, primal, joins, Tree, joins_ends, Mesh, IsSurface, ends, cells_of, ArePositive, none-some, same_Some, ends_below, some_vertex, IsRow, edge_link, CotreeTables, split_with}
+use Rattle.surf_cover.proofs.Common.{IsSet, IsSignedDistance, AreSignedDistances, way_to, signed_distances_exist, xor_set, nearest_from, nearest_to, far, IsSigned, IsSignedBy, CoverTables, distance_at, IsLesserEnd, AreClosedSets, IsStartBy, IsBetter, IsLeastStart, Start}
 use Rattle.surf_cover.proofs.Distances.{IsWithin, AreDistancesWithin}
-use Rattle.surf_cover.specs.Starts.{IsLesserEnd, AreClosedSets, IsStartBy, IsUpTo, IsBetter, IsLeastStart}
-use Rattle.surf_cover.specs.declared.rounds.Start.{Start}
+use Rattle.surf_cover.specs.Starts.{IsUpTo}
 use Rattle.surf_cover.proofs.Covering.{is_set}
 use Rattle.surf_cover.proofs.Signed.{sign_is}
 use Rattle.surf_cover.proofs.Through.{HasRound, HasRoundBy, round_by, round_least, round_here, round_there}

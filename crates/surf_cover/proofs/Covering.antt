@@ -1,16 +1,8 @@
 -- The cover by a table of signatures is the cover.
-use Rattle.surf_surfaces.proofs.Common.{◌≡◌, ◌≢◌, ℕ, ◌*◌, ◌/◌, ◌<◌, ◌≤◌, Bool, true, false, not, ◌&&◌, cond, eqb, List, length, map, slice_index, bit_xor, sym, ap, ◌∙◌, subst, arith, inl, inr, cases_lt, cases_Bool, and_parts, eqb-true, eq-eqb, ne_eqb, length-map, get_or-map, get_or_past, map-map, div_below, div-mul-add, any_below-found, Tree, IsTree, in_tree, Mesh, edge_count, ends, IsSurface, cells_of, edge_signature, same_from, number_of-none, Graph, IsGraph, IsConnectedGraph, joins}
+use Rattle.surf_cotree.proofs.Common.{◌≡◌, ◌≢◌, ℕ, ◌*◌, ◌/◌, ◌<◌, ◌≤◌, Bool, true, false, not, ◌&&◌, cond, eqb, List, length, map, slice_index, bit_xor, sym, ap, ◌∙◌, subst, arith, inl, inr, cases_lt, cases_Bool, and_parts, eqb-true, eq-eqb, ne_eqb, length-map, get_or-map, get_or_past, map-map, div_below, div-mul-add, any_below-found, Tree, IsTree, in_tree, Mesh, edge_count, ends, IsSurface, cells_of, edge_signature, same_from, number_of-none, Graph, IsGraph, IsConnectedGraph, joins, ends_below, link_at, IsRow, other_of, edge_link}
+use Rattle.surf_cover.proofs.Common.{IsSet, IsCertified, set_count, cover, cover_node, cover_edge, cover_length, is_cover, searches_certify, edge_set, xor_set, none_set, AreLengths, IsSettled, IsSearchable, node_of, cover_by, length_by, link_by, IsSignedBy}
 use Rattle.surf_graphs.specs.Cells.{Split, IsSplit, primal, dual, signature, parts}
-use Rattle.surf_surfaces.proofs.meshes.CellLaws.{ends_below}
-use Rattle.surf_classes.specs.Cover.{IsSet, IsCertified}
-use Rattle.surf_classes.specs.CoverGraph.{set_count, cover, cover_node, cover_edge, cover_length}
-use Rattle.surf_classes.proofs.Covers.{is_cover, searches_certify}
-use Rattle.surf_classes.proofs.SignedSteps.{edge_set, xor_set, none_set}
-use Rattle.surf_lengths.specs.Lengths.{AreLengths}
-use Rattle.surf_mesh.specs.Links.{link_at, IsRow, other_of, edge_link}
-use Rattle.surf_tree.specs.Searches.{IsSettled, IsSearchable}
 use Rattle.surf_tree.proofs.LengthLaws.{short_lengths}
-use Rattle.surf_cover.specs.Networks.{node_of, cover_by, length_by, link_by, IsSignedBy}
 
 -- a tree has no edge past those of the graph
 tree_past : (g : Graph) (t : Tree) → IsTree g t → (e : ℕ) → g.edges ≤ e → in_tree g t e ≡ false

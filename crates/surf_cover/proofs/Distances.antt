@@ -1,18 +1,6 @@
 -- What a search over the cover has reached within a radius are the least lengths of walks by their signatures.
-use Rattle.surf_surfaces.proofs.Common.{◌≡◌, ◌≢◌, ℕ, zero, suc, ◌+◌, ◌-◌, ◌*◌, ◌/◌, ◌<◌, ◌≤◌, Bool, true, false, cond, eqb, List, [], ◌∷◌, slice_index, bit_xor, refl, sym, ap, ◌∙◌, subst, arith, inl, inr, cases_eq, Split, IsSplit, primal, IsJoined, edge_between, edge_between_is, joins_turned, Mesh, edge_count, ends, IsSurface, ArePositive, edge_length, cells_of, edge_signature, div_below, div-mul-add, same_from_place, joined_in}
-use Rattle.surf_lengths.specs.Lengths.{longest}
-use Rattle.surf_surfaces.proofs.meshes.CellLaws.{surfaces_are_cells}
-use Rattle.surf_classes.specs.Cover.{IsSet, IsSignedDistance}
-use Rattle.surf_classes.specs.CoverGraph.{set_count, cover, cover_node, cover_edge, cover_length}
-use Rattle.surf_classes.proofs.Covers.{is_cover}
-use Rattle.surf_classes.proofs.Reached.{between_one}
-use Rattle.surf_classes.proofs.Rounds.{Signed}
-use Rattle.surf_classes.proofs.SignedWalks.{xor_on, goes_over, after}
-use Rattle.surf_classes.proofs.SignedSteps.{edge_set, xor_set, none_set, sum_set, nearest_from}
-use Rattle.surf_classes.proofs.Tables.{xor_back}
-use Rattle.surf_tree.specs.Searches.{far}
-use Rattle.surf_cover.specs.Networks.{node_of, cover_by, length_by, IsSignedBy}
-use Rattle.surf_cover.specs.Within.{IsReachedWithin}
+use Rattle.surf_cotree.proofs.Common.{◌≡◌, ◌≢◌, ℕ, zero, suc, ◌+◌, ◌-◌, ◌*◌, ◌/◌, ◌<◌, ◌≤◌, Bool, true, false, cond, eqb, List, [], ◌∷◌, slice_index, bit_xor, refl, sym, ap, ◌∙◌, subst, arith, inl, inr, cases_eq, Split, IsSplit, primal, IsJoined, edge_between, edge_between_is, joins_turned, Mesh, edge_count, ends, IsSurface, ArePositive, edge_length, cells_of, edge_signature, div_below, div-mul-add, same_from_place, joined_in, surfaces_are_cells}
+use Rattle.surf_cover.proofs.Common.{longest, IsSet, IsSignedDistance, set_count, cover, cover_node, cover_edge, cover_length, is_cover, between_one, Signed, xor_on, goes_over, after, edge_set, xor_set, none_set, sum_set, nearest_from, xor_back, far, node_of, cover_by, length_by, IsSignedBy, IsReachedWithin}
 use Rattle.surf_cover.proofs.Covering.{same_sign}
 
 -- a number that is n as far as a radius, and past it stands for none

@@ -1,15 +1,8 @@
 -- What is found over the cover by the signatures of a signed tree of faces.
-use Rattle.surf_surfaces.proofs.Common.{◌≡◌, ◌≢◌, ℕ, ◌+◌, ◌*◌, ◌<◌, ◌≤◌, List, length, slice_index, ◌∙◌, subst, arith, row_fits, IsSplit, Tree, Mesh, edge_count, IsSurface, ArePositive, cells_of}
-use Rattle.surf_classes.proofs.SignedSteps.{edge_set}
-use Rattle.surf_classes.proofs.Tables.{certified_tables_are_distances}
-use Rattle.surf_cotree.specs.Tables.{CotreeTables, split_with}
-use Rattle.surf_lengths.specs.Lengths.{longest, AreLengths}
-use Rattle.surf_tree.specs.Searches.{far, IsSettled}
-use Rattle.surf_cover.specs.Tables.{sets_of}
-use Rattle.surf_cover.specs.Networks.{node_of, cover_by, length_by, IsSignedBy, IsCoverable}
-use Rattle.surf_cover.specs.Grown.{IsSigned, IsGrown}
+use Rattle.surf_cotree.proofs.Common.{◌≡◌, ◌≢◌, ℕ, ◌+◌, ◌*◌, ◌<◌, ◌≤◌, List, length, slice_index, ◌∙◌, subst, arith, row_fits, IsSplit, Tree, Mesh, edge_count, IsSurface, ArePositive, cells_of, CotreeTables, split_with}
+use Rattle.surf_cover.proofs.Common.{edge_set, certified_tables_are_distances, longest, AreLengths, far, IsSettled, sets_of, node_of, cover_by, length_by, IsSignedBy, IsCoverable, IsSigned, IsReachedWithin}
+use Rattle.surf_cover.specs.Grown.{IsGrown}
 use Rattle.surf_cover.proofs.Signed.{sets_are, sign_is}
-use Rattle.surf_cover.specs.Within.{IsReachedWithin}
 use Rattle.surf_cover.proofs.Covering.{searchable, some_set, settled_certified}
 use Rattle.surf_cover.proofs.Within.{within_all, all_reached}
 

@@ -1,3 +1,4 @@
+pub mod Common
 pub mod Covering
 pub mod Signed
 pub mod Grown

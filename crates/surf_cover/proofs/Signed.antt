@@ -1,11 +1,6 @@
 -- What a signed tree of faces has, and the steps of a walk from a place on.
-use Rattle.surf_surfaces.proofs.Common.{◌≡◌, ℕ, suc, ◌+◌, ◌^◌, ◌<◌, ◌≤◌, List, ◌∷◌, length, get_or, slice_index, drop, map, All, sym, ap, ◌∙◌, subst, arith, range_with_len, pow-le-pow_right, get_or-map-range_with_len, length-map-range_with_len, IsSplit, Tree, left_edges, Mesh, steps, edge_count, face_count, loop_count, cells_of, edge_signature, drop-cons}
-use Rattle.surf_classes.specs.CoverGraph.{set_count}
-use Rattle.surf_classes.proofs.SignedSteps.{edge_set}
-use Rattle.surf_cotree.specs.Grown.{IsGrownOn}
-use Rattle.surf_cotree.specs.Tables.{AreCotreeTables, parent_edge_of, CotreeTables, split_with}
-use Rattle.surf_cover.specs.Tables.{sets_of}
-use Rattle.surf_cover.specs.Grown.{IsSigned}
+use Rattle.surf_cotree.proofs.Common.{◌≡◌, ℕ, suc, ◌+◌, ◌^◌, ◌<◌, ◌≤◌, List, ◌∷◌, length, get_or, slice_index, drop, map, All, sym, ap, ◌∙◌, subst, arith, range_with_len, pow-le-pow_right, get_or-map-range_with_len, length-map-range_with_len, IsSplit, Tree, left_edges, Mesh, steps, edge_count, face_count, loop_count, cells_of, edge_signature, drop-cons, IsGrownOn, AreCotreeTables, parent_edge_of, CotreeTables, split_with}
+use Rattle.surf_cover.proofs.Common.{set_count, edge_set, sets_of, IsSigned}
 
 module _ (mesh : Mesh) (t : CotreeTables) (signed : IsSigned mesh t) where
   -- there are as many left edges as loops

@@ -1,11 +1,7 @@
 -- From the least vertex at which a round is shortest the chosen walk is read back.
-use Rattle.surf_surfaces.proofs.Common.{◌≡◌, ℕ, ◌<◌, ◌≤◌, List, ◌∷◌, reverse, sym, ◌∙◌, subst, arith, inl, inr, cases_lt, Split, IsSplit, Mesh, IsSurface, ArePositive, IsClosed, walk_length, cells_of, walk_signature}
-use Rattle.surf_classes.specs.Cover.{IsSet, IsSignedDistance, AreSignedDistances, IsLeastBase, IsReadBack}
+use Rattle.surf_cotree.proofs.Common.{◌≡◌, ℕ, ◌<◌, ◌≤◌, List, ◌∷◌, reverse, sym, ◌∙◌, subst, arith, inl, inr, cases_lt, Split, IsSplit, Mesh, IsSurface, ArePositive, IsClosed, walk_length, cells_of, walk_signature}
+use Rattle.surf_cover.proofs.Common.{IsSet, IsSignedDistance, AreSignedDistances, IsLeastBase, IsReadBack, signed_distances_exist, read_back_is_chosen, Start, IsLeastStart}
 use Rattle.surf_classes.specs.Shortest.{IsChosenWalk}
-use Rattle.surf_classes.proofs.Reached.{signed_distances_exist}
-use Rattle.surf_classes.proofs.ReadBack.{read_back_is_chosen}
-use Rattle.surf_cover.specs.declared.rounds.Start.{Start}
-use Rattle.surf_cover.specs.Starts.{IsLeastStart}
 
 -- there is one least length
 pub distance_one : (mesh : Mesh) (lengths : List ℕ) (d : Split) (x v set n m : ℕ) →

@@ -1,13 +1,7 @@
 -- Tight steps over the cover are tight steps of the mesh with signatures.
-use Rattle.surf_surfaces.proofs.Common.{◌≡◌, ◌≢◌, ℕ, ◌+◌, ◌*◌, ◌/◌, ◌%◌, ◌<◌, ◌≤◌, Bool, true, false, cond, eqb, List, slice_index, bit_xor, refl, sym, ap, ◌∙◌, subst, add-zero, arith, div_below, div-mul-add, mod-mul-add, div-add-mod', mod_below, row_fits, Split, IsSplit, primal, IsJoined, edge_between, edge_between_is, Mesh, edge_count, ends, IsSurface, ArePositive, edge_length, edge_number, cells_of, edge_signature, joined_in}
-use Rattle.surf_surfaces.proofs.meshes.CellLaws.{surfaces_are_cells}
-use Rattle.surf_classes.specs.Cover.{IsSet, IsTightFor, IsLeastTight, IsCertified, step_signature}
-use Rattle.surf_classes.specs.CoverGraph.{set_count, cover, cover_node, cover_edge, cover_length}
-use Rattle.surf_classes.proofs.Covers.{is_cover}
-use Rattle.surf_classes.proofs.Reached.{between_one}
-use Rattle.surf_classes.proofs.SignedSteps.{edge_set, xor_set, none_set, step_back, tight_to, tight_from}
-use Rattle.surf_tree.specs.Searches.{IsTight, IsLeastTight as IsLeastTightIn}
-use Rattle.surf_cover.specs.Networks.{node_of, cover_by, length_by, IsSignedBy, IsCertifiedBy}
+use Rattle.surf_cotree.proofs.Common.{◌≡◌, ◌≢◌, ℕ, ◌+◌, ◌*◌, ◌/◌, ◌%◌, ◌<◌, ◌≤◌, Bool, true, false, cond, eqb, List, slice_index, bit_xor, refl, sym, ap, ◌∙◌, subst, add-zero, arith, div_below, div-mul-add, mod-mul-add, div-add-mod', mod_below, row_fits, Split, IsSplit, primal, IsJoined, edge_between, edge_between_is, Mesh, edge_count, ends, IsSurface, ArePositive, edge_length, edge_number, cells_of, edge_signature, joined_in, surfaces_are_cells}
+use Rattle.surf_cover.proofs.Common.{IsSet, IsTightFor, IsLeastTight, IsCertified, step_signature, set_count, cover, cover_node, cover_edge, cover_length, is_cover, between_one, edge_set, xor_set, none_set, step_back, tight_to, tight_from, IsTight, node_of, cover_by, length_by, IsSignedBy, IsCertifiedBy}
+use Rattle.surf_tree.specs.Searches.{IsLeastTight as IsLeastTightIn}
 use Rattle.surf_cover.proofs.Covering.{same_sign, some_set}
 
 module _ (mesh : Mesh) (lengths : List ℕ) (d : Split) (surface : IsSurface mesh) (split : IsSplit (cells_of mesh) d)

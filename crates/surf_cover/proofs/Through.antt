@@ -1,9 +1,6 @@
 -- Rounds by way of a vertex, and their lengths by the distances from there.
-use Rattle.surf_surfaces.proofs.Common.{◌≡◌, ℕ, true, ◌+◌, ◌<◌, ◌≤◌, List, ◌++◌, bit_xor, subst, arith, has, Split, primal, Mesh, IsSurface, edge_length, cells_of, edge_signature}
-use Rattle.surf_classes.specs.Cover.{IsSet, AreSignedDistances}
-use Rattle.surf_classes.proofs.Rounds.{Signed, turn}
-use Rattle.surf_classes.proofs.SignedWalks.{turned, goes-append, xor_on, xor_off}
-use Rattle.surf_classes.proofs.SignedSteps.{xor_set, sum_set, Nearest, nearest_from}
+use Rattle.surf_cotree.proofs.Common.{◌≡◌, ℕ, true, ◌+◌, ◌<◌, ◌≤◌, List, ◌++◌, bit_xor, subst, arith, has, Split, primal, Mesh, IsSurface, edge_length, cells_of, edge_signature}
+use Rattle.surf_cover.proofs.Common.{IsSet, AreSignedDistances, Signed, turn, turned, goes-append, xor_on, xor_off, xor_set, sum_set, Nearest, nearest_from}
 use Rattle.surf_cover.proofs.Passing.{Begins, passes}
 
 -- a round at a vertex

@@ -1,14 +1,7 @@
 -- Searches that go no farther than a radius: what is listed, and what they have reached at the end.
-use Rattle.surf_surfaces.proofs.Common.{ℕ, ◌<◌, ◌≤◌, ◌≡◌, ◌≢◌, ◌+◌, ◌*◌, ◌++◌, refl, sym, ap, ◌∙◌, arith, inl, inr, List, [], ◌∷◌, length, set, get_or-set_same, get_or-set_other, cases_eq, cases_lt, Graph}
-use Rattle.std.proofs.Math.ListN.{length-set}
-use Rattle.std.proofs.lemmas.List.{length-append, get_or_append_left, get_or_at}
-use Rattle.surf_base.specs.Tables.{at}
-use Rattle.surf_heap.specs.Entries.{Entries}
-use Rattle.surf_lengths.specs.Lengths.{longest}
-use Rattle.surf_tree.specs.Searches.{far, IsSearchable, IsSettled}
-use Rattle.surf_tree.proofs.SearchWords.{IsSearch}
-use Rattle.surf_tree.proofs.Settling.{all_or_none}
-use Rattle.surf_cover.specs.Within.{ArePast, AreListed, IsReachedWithin}
+use Rattle.surf_cotree.proofs.Common.{ℕ, ◌<◌, ◌≤◌, ◌≡◌, ◌≢◌, ◌+◌, ◌*◌, ◌++◌, refl, sym, ap, ◌∙◌, arith, inl, inr, List, [], ◌∷◌, length, set, get_or-set_same, get_or-set_other, cases_eq, cases_lt, Graph, length-set, length-append, get_or_append_left, at, Entries}
+use Rattle.surf_cover.proofs.Common.{longest, far, IsSearchable, IsSettled, IsSearch, all_or_none, ArePast, AreListed, IsReachedWithin}
+use Rattle.std.proofs.lemmas.List.{get_or_at}
 
 -- where nothing is settled, nothing is listed
 pub none_listed : (distances settled : List ℕ) → ((n : ℕ) → n < length distances → at distances n ≡ far) →

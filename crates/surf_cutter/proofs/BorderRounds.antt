@@ -1,7 +1,6 @@
 -- Going round a border from copy to copy.
-use Rattle.surf_surfaces.proofs.Common.{◌≡◌, ◌≢◌, ℕ, ◌+◌, ◌-◌, ◌<◌, ◌≤◌, ◌⊎◌, inl, inr, sym, refl, subst, ap, ◌∙◌, List, [], ◌∷◌, ◌++◌, length, get_or, eqb, arith, cases_eq, cases_order, eqb-true, length_push, get_or_push, get_or_append_left, IsDisc, Mesh, side_count, length-le_from_distinct_below}
-use Rattle.surf_cutter.specs.Boundary.{corners_of, HasCopy, IsBorderSide, IsOtherAt, IsOnward, IsBoundary, HasPairedBorder}
-use Rattle.surf_surfaces.proofs.meshes.EdgeLaws.{list_any_at}
+use Rattle.surf_slit.proofs.Common.{◌≡◌, ◌≢◌, ℕ, ◌+◌, ◌-◌, ◌<◌, ◌≤◌, ◌⊎◌, inl, inr, sym, refl, subst, ap, ◌∙◌, List, [], ◌∷◌, ◌++◌, length, get_or, eqb, arith, cases_eq, cases_order, eqb-true, length_push, get_or_push, get_or_append_left, IsDisc, Mesh, side_count, length-le_from_distinct_below, list_any_at}
+use Rattle.surf_cutter.proofs.Common.{corners_of, HasCopy, IsBorderSide, IsOtherAt, IsOnward, IsBoundary, HasPairedBorder}
 use Rattle.surf_cutter.proofs.BorderSides.{has_all}
 use Rattle.surf_cutter.proofs.Sorted.{distinct_from}
 

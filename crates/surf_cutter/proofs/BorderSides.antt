@@ -1,14 +1,8 @@
 -- Sides of a mesh by their corners, and the edges of the border.
-use Rattle.surf_surfaces.proofs.Common.{◌≡◌, ℕ, ◌+◌, ◌-◌, ◌<◌, ◌⊎◌, inl, inr, sym, refl, subst, ap, ◌∙◌, [], length, get_or, take, arith, flat_map, get_or-map, length-map, Joined, here, over, Mesh, IsMesh, pair, pair_of, sides, after, face_count, face_at, ends, faces_with, HasEdge, first_side, IsFaceOf, side_count, pair_at, owners, length-flat_map, get_or-flat_map, IsDisc, IsBorderEdge, ShareOnBorder}
+use Rattle.surf_slit.proofs.Common.{◌≡◌, ℕ, ◌+◌, ◌-◌, ◌<◌, ◌⊎◌, inl, inr, sym, refl, subst, ap, ◌∙◌, [], length, get_or, take, arith, flat_map, get_or-map, length-map, Joined, here, over, Mesh, IsMesh, pair, pair_of, sides, after, face_count, face_at, ends, faces_with, HasEdge, first_side, IsFaceOf, side_count, pair_at, owners, length-flat_map, get_or-flat_map, IsDisc, IsBorderEdge, ShareOnBorder, sides_are_by_place, side_place, edge_of, face_of, same_face, pair_is, face_of_side, pair_at_place, side_of_face, face_has_side}
+use Rattle.surf_cutter.proofs.Common.{corners_of, HasCopy, IsBorderSide}
 use Rattle.surf_surfaces.proofs.meshes.CountLaws.{length-sides}
-use Rattle.surf_surfaces.proofs.meshes.SideLaws.{sides_are_by_place, side_place}
-use Rattle.surf_opening.proofs.sides.Edges.{edge_of, face_of}
-use Rattle.surf_opening.proofs.sides.MeshSides.{same_face}
-use Rattle.surf_opening.proofs.sides.Polygons.{pair_is}
 use Rattle.surf_soup.proofs.EdgeTables.{sizes, length-side_pairs}
-use Rattle.surf_soup.proofs.HalfLaws.{face_of_side}
-use Rattle.surf_soup.proofs.SideNumbers.{pair_at_place, side_of_face, face_has_side}
-use Rattle.surf_cutter.specs.Boundary.{corners_of, HasCopy, IsBorderSide}
 
 -- the corners of the side that begins at a place of a face
 pub corners_at_place : (mesh : Mesh) (f k : ℕ) → f < face_count mesh → k < length (face_at mesh f) →

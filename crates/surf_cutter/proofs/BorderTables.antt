@@ -1,9 +1,6 @@
 -- The tables by which the border is gone round.
-use Rattle.surf_surfaces.proofs.Common.{◌≡◌, ℕ, ◌+◌, ◌<◌, inl, inr, sym, refl, subst, ap, ◌∙◌, Bool, true, false, List, [], ◌∷◌, ◌++◌, length, get_or, arith, true≢false, cases_eq, length_push, get_or_push, get_or_append_left, IsDisc, Mesh, IsMesh, after, face_at, IsEdgeOf, side_count}
-use Rattle.surf_surfaces.proofs.meshes.SideLaws.{after-below}
-use Rattle.surf_opening.proofs.sides.Edges.{edge_one}
-use Rattle.surf_soup.proofs.VertexLaws.{placed}
-use Rattle.surf_cutter.specs.Boundary.{corners_of, HasCopy, AreBorderSides, IsLeastBorderSide, IsCutSide, AreCutSides}
+use Rattle.surf_slit.proofs.Common.{◌≡◌, ℕ, ◌+◌, ◌<◌, inl, inr, sym, refl, subst, ap, ◌∙◌, Bool, true, false, List, [], ◌∷◌, ◌++◌, length, get_or, arith, true≢false, cases_eq, length_push, get_or_push, get_or_append_left, IsDisc, Mesh, IsMesh, after, face_at, IsEdgeOf, side_count, after-below, edge_one, placed}
+use Rattle.surf_cutter.proofs.Common.{corners_of, HasCopy, AreBorderSides, IsLeastBorderSide, IsCutSide, AreCutSides}
 use Rattle.surf_cutter.proofs.BorderSides.{corners_at_place, side_of_edge}
 
 -- one more side is gone through, cut or not

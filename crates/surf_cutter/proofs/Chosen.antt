@@ -1,22 +1,10 @@
 -- What is opened along the full cut, or the trimmed one, is the chosen opening.
-use Rattle.surf_surfaces.proofs.Common.{◌≡◌, ℕ, ◌+◌, ◌<◌, not, sym, ap, ◌∙◌, List, length, Bool, true, false, Result, arith, All, IfOk, All-contains, IfOk-weaker, Tree, cotree_edges, Mesh, face_count, edge_count, IsSurface, IsOpening}
-use Rattle.surf_opening.specs.ChosenCut.{AreDivided, AreInOrder}
-use Rattle.surf_opening.specs.Laws.{TellsCut}
+use Rattle.surf_slit.proofs.Common.{◌≡◌, ℕ, ◌+◌, ◌<◌, not, sym, ap, ◌∙◌, List, length, Bool, true, false, Result, arith, All, IfOk, All-contains, IfOk-weaker, Tree, cotree_edges, Mesh, face_count, edge_count, IsSurface, IsOpening, IsOpenedBy, Side, IsUncut}
+use Rattle.surf_cutter.proofs.Common.{AreDivided, AreInOrder, TellsCut, IsDualTree, some_list, full_cuts_are_chosen, trimmed_cuts_are_chosen, chosen_are_openings, full_openings_are_counted, full_told, openings_through_are_openings, points_are_on_border, OpensToDisc, Kind, full, trimmed, through, points_of, is_point, IsOpeningOf, HaveCopiesOnBorder, OpenMesh, IsOpenedInOrder, MarksCotree, IsHeld, IsChosenFor, IsChosenCut, AreTurnedOver, is_cut, IsTrimmedFrom, HasEndedBy}
 use Rattle.surf_opening.specs.Named.{whole}
-use Rattle.surf_opening.specs.Opening.{IsOpenedBy}
-use Rattle.surf_opening.specs.Side.{Side}
-use Rattle.surf_opening.specs.Uncut.{IsDualTree}
-use Rattle.surf_opening.proofs.openings.ChosenOpenings.{some_list, full_cuts_are_chosen, trimmed_cuts_are_chosen, chosen_are_openings, full_openings_are_counted}
-use Rattle.surf_opening.proofs.counts.CutCounts.{full_told}
 use Rattle.surf_opening.proofs.cuts.NamedEdges.{forget}
-use Rattle.surf_seams.proofs.Openings.{openings_through_are_openings, points_are_on_border}
-use Rattle.surf_slit.specs.Labels.{IsUncut}
 use Rattle.surf_cotree.specs.Grown.{IsMarked, IsGrown}
 use Rattle.surf_cotree.specs.Tables.{CotreeTables, cotree_of}
-use Rattle.surf_cutter.specs.Boundary.{OpensToDisc}
-use Rattle.surf_cutter.specs.Kinds.{Kind, full, trimmed, through, points_of, is_point, IsOpeningOf, HaveCopiesOnBorder}
-use Rattle.surf_cutter.specs.Opened.{OpenMesh, IsOpenedInOrder, MarksCotree, IsHeld, IsChosenFor, IsChosenCut, AreTurnedOver}
-use Rattle.surf_cutter.specs.Trimming.{is_cut, IsTrimmedFrom, HasEndedBy}
 use Rattle.surf_cutter.proofs.Takes.{point_found}
 use Rattle.surf_cutter.proofs.Trims.{told_same}
 

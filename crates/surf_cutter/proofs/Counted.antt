@@ -1,9 +1,6 @@
 -- Numbering labels in the order in which they come, one side after the other.
-use Rattle.surf_surfaces.proofs.Common.{◌≡◌, ◌≢◌, ℕ, zero, suc, ◌+◌, ◌<◌, ◌⊎◌, inl, inr, sym, subst, ap, ◌∙◌, List, [], ◌∷◌, ◌++◌, length, get_or, arith, cases_eq}
-use Rattle.std.proofs.Math.ListN.{set}
-use Rattle.std.proofs.lemmas.List.{length-set, get_or-set_same, get_or-set_other, length_push, get_or_push, get_or_append_left}
-use Rattle.surf_base.specs.Tables.{nobody}
-use Rattle.surf_cutter.specs.Copies.{label_at, AreCounted}
+use Rattle.surf_slit.proofs.Common.{◌≡◌, ◌≢◌, ℕ, zero, suc, ◌+◌, ◌<◌, ◌⊎◌, inl, inr, sym, subst, ap, ◌∙◌, List, [], ◌∷◌, ◌++◌, length, get_or, arith, cases_eq, set, length-set, get_or-set_same, get_or-set_other, length_push, get_or_push, get_or_append_left}
+use Rattle.surf_cutter.proofs.Common.{nobody, label_at, AreCounted}
 
 pub counted_none : (order labels tails numbers : List ℕ) → ((l : ℕ) → l < length numbers → get_or numbers l 0 ≡ nobody) → AreCounted order labels tails 0 numbers []
 counted_none order labels tails numbers none = record {

@@ -1,9 +1,8 @@
 -- Faces in one table, by the places where they begin.
-use Rattle.surf_surfaces.proofs.Common.{◌≡◌, ℕ, suc, ◌+◌, ◌-◌, ◌<◌, ◌≤◌, List, [], ◌∷◌, ◌++◌, length, get_or, take, drop, refl, sym, ap, subst, ◌∙◌, inl, inr, arith, flat_map, sum_by, cases_eq, Mesh, face_count, face_at, side_count, first_side, take-length, length-drop, length-take, get_or-take, get_or-drop, get_or_read, length_push, get_or_push, get_or_append_left}
+use Rattle.surf_slit.proofs.Common.{◌≡◌, ℕ, suc, ◌+◌, ◌-◌, ◌<◌, ◌≤◌, List, [], ◌∷◌, ◌++◌, length, get_or, take, drop, refl, sym, ap, subst, ◌∙◌, inl, inr, arith, flat_map, sum_by, cases_eq, Mesh, face_count, face_at, side_count, first_side, take-length, length-drop, length-take, get_or-take, get_or-drop, get_or_read, length_push, get_or_push, get_or_append_left, spans}
+use Rattle.surf_cutter.proofs.Common.{AreBounds, rows_from, AreStartsTo, AreRowsOf}
 use Rattle.surf_rows.specs.Rows.{AreEnds}
 use Rattle.surf_rows.proofs.Cuts.{length-cut, span_at, row_is-cut, sum-first, flat-cut, ends_push}
-use Rattle.surf_soup.proofs.HalfLaws.{spans}
-use Rattle.surf_cutter.specs.Faces.{AreBounds, rows_from, AreStartsTo, AreRowsOf}
 
 -- the first n faces with the numbers of their corners' labels in place of the corners
 pub record AreCopied (mesh : Mesh) (labels numbers : List ℕ) (n : ℕ) (faces : List (List ℕ)) : Type 0 where

@@ -1,3 +1,4 @@
+pub mod Common
 pub mod BorderRounds
 pub mod BorderSides
 pub mod BorderTables

@@ -1,9 +1,6 @@
 -- The labels of the sides at one vertex more are numbered.
-use Rattle.surf_surfaces.proofs.Common.{◌≡◌, ◌≢◌, ℕ, ◌+◌, ◌<◌, ◌^◌, sym, subst, ap, ◌∙◌, List, [], ◌∷◌, ◌++◌, length, get_or, arith, Mesh, side_count, length-append, get_or-append-add}
-use Rattle.std.proofs.Math.ListN.{set}
-use Rattle.surf_soup.specs.Vertices.{all_corners}
-use Rattle.surf_base.specs.Tables.{nobody}
-use Rattle.surf_cutter.specs.Copies.{label_at, AreCounted, AreSortedTo, IsRowAt, AreNumberedTo}
+use Rattle.surf_slit.proofs.Common.{◌≡◌, ◌≢◌, ℕ, ◌+◌, ◌<◌, ◌^◌, sym, subst, ap, ◌∙◌, List, [], ◌∷◌, ◌++◌, length, get_or, arith, Mesh, side_count, length-append, get_or-append-add, set}
+use Rattle.surf_cutter.proofs.Common.{all_corners, nobody, label_at, AreCounted, AreSortedTo, IsRowAt, AreNumberedTo}
 use Rattle.surf_cutter.proofs.Counted.{counted_none, counted_on, counted_again, counted_new}
 use Rattle.surf_cutter.proofs.Sorted.{sorted_none, sorted_more, sorted_few}
 

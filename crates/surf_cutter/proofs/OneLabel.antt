@@ -1,12 +1,6 @@
 -- The sides that begin at a vertex have one label, which is numbered.
-use Rattle.surf_surfaces.proofs.Common.{◌≡◌, ◌≢◌, ℕ, zero, suc, ◌+◌, ◌-◌, ◌<◌, ◌^◌, sym, subst, ap, ◌∙◌, List, ◌∷◌, [], ◌++◌, length, get_or, arith, Mesh, side_count}
-use Rattle.std.proofs.Math.ListN.{set}
-use Rattle.std.proofs.lemmas.List.{length-set, get_or-set_same}
-use Rattle.surf_soup.specs.Ring.{IsRing}
-use Rattle.surf_soup.specs.Vertices.{sides_at}
-use Rattle.surf_soup.proofs.CornerSides.{at_begins, begins_at, at_rises}
-use Rattle.surf_base.specs.Tables.{nobody}
-use Rattle.surf_cutter.specs.Copies.{label_at, HaveOneLabel, IsRowAt, AreNumberedTo}
+use Rattle.surf_slit.proofs.Common.{◌≡◌, ◌≢◌, ℕ, zero, suc, ◌+◌, ◌-◌, ◌<◌, ◌^◌, sym, subst, ap, ◌∙◌, List, ◌∷◌, [], ◌++◌, length, get_or, arith, Mesh, side_count, set, length-set, get_or-set_same, IsRing, at_begins, begins_at, at_rises}
+use Rattle.surf_cutter.proofs.Common.{sides_at, nobody, label_at, HaveOneLabel, IsRowAt, AreNumberedTo}
 use Rattle.surf_cutter.proofs.Numbered.{AreNumberedIn, numbered_start, numbered_done, numbered_again, numbered_new, place_few}
 
 -- the sides that begin at a vertex, by number

@@ -1,14 +1,6 @@
 -- Faces over numbered labels are opened along the uncut edges, with their copies in order.
-use Rattle.surf_surfaces.proofs.Common.{◌≡◌, ℕ, ◌+◌, ◌<◌, ◌≤◌, inl, inr, sym, subst, ap, ◌∙◌, List, [], length, get_or, map, Bool, All, Contains, arith, cases_eq, cases_lt, cases_order, get_or_default, same_lists, length-map, get_or-map, All-from_get_or, Joined, Mesh, face_count, face_at, IsSurface, side_count, first_side, IsFaceOf}
-use Rattle.surf_opening.specs.ChosenCut.{AreInOrder}
-use Rattle.surf_opening.specs.Opening.{ShareUncutAt, IsOpenedBy}
-use Rattle.surf_soup.specs.Vertices.{all_corners}
-use Rattle.surf_soup.proofs.HalfLaws.{spans}
-use Rattle.surf_soup.proofs.CornerSides.{one_corner}
-use Rattle.surf_soup.proofs.SideNumbers.{first_mono}
-use Rattle.surf_soup.proofs.VertexLaws.{IsPlaced, placed, corner_at_place}
-use Rattle.surf_slit.specs.Labels.{corner_at, IsUncut, AreLabels}
-use Rattle.surf_cutter.specs.Copies.{AreCounted}
+use Rattle.surf_slit.proofs.Common.{◌≡◌, ℕ, ◌+◌, ◌<◌, ◌≤◌, inl, inr, sym, subst, ap, ◌∙◌, List, [], length, get_or, map, Bool, All, Contains, arith, cases_eq, cases_lt, cases_order, get_or_default, same_lists, length-map, get_or-map, All-from_get_or, Joined, Mesh, face_count, face_at, IsSurface, side_count, first_side, IsFaceOf, ShareUncutAt, IsOpenedBy, spans, one_corner, first_mono, IsPlaced, placed, corner_at_place, corner_at, IsUncut, AreLabels}
+use Rattle.surf_cutter.proofs.Common.{AreInOrder, all_corners, AreCounted}
 use Rattle.surf_cutter.proofs.FaceTables.{AreCopied}
 use Rattle.surf_cutter.proofs.Sorted.{AreSorted}
 

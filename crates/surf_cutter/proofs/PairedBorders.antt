@@ -1,27 +1,16 @@
 -- The border sides of an opening are the cut sides of the surface, two at each of their copies.
-use Rattle.surf_surfaces.proofs.Common.{◌≡◌, ℕ, ◌+◌, ◌<◌, ◌↔◌, inl, inr, sym, refl, subst, ap, ◌∙◌, Bool, List, [], length, get_or, take, zero, suc, ◌≤◌, arith, sum_by, IsDisc, here, Mesh, pair, after, face_count, face_at, ends, faces_with, HasEdge, IsSurface, first_side, IsFaceOf, IsEdgeOf, side_count, pair_at, sum_by_more, take-length}
-use Rattle.surf_opening.specs.Opening.{corner_of, IsOpenedBy}
+use Rattle.surf_slit.proofs.Common.{◌≡◌, ℕ, ◌+◌, ◌<◌, ◌↔◌, inl, inr, sym, refl, subst, ap, ◌∙◌, Bool, List, [], length, get_or, take, zero, suc, ◌≤◌, arith, sum_by, IsDisc, here, Mesh, pair, after, face_count, face_at, ends, faces_with, HasEdge, IsSurface, first_side, IsFaceOf, IsEdgeOf, side_count, pair_at, sum_by_more, take-length, corner_of, IsOpenedBy, Side, IsPlace, edge_of, from_face, pair_is, pair_among, among_pair, pair_at_place, face_has_side, one_face, placed, IsUncut}
+use Rattle.surf_cutter.proofs.Common.{Uncut, Copy, CutSide, IsDualTree, IsTrimmed, TellsCut, corners_of, HasCopy, IsBorderSide, AreBorderSides, HasPairedBorder, IsCutSide, AreCutSides, OpensToDisc, is_cut}
 use Rattle.surf_opening.proofs.sides.SideWords.{IsOpenedAlong, IsSides}
 use Rattle.surf_opening.specs.Rim.{along, back}
 use Rattle.surf_opening.proofs.gluing.RimWords.{IsPaired}
-use Rattle.surf_opening.specs.Side.{Side, IsPlace}
-use Rattle.surf_opening.specs.Uncut.{Uncut, Copy, CutSide, IsDualTree, IsTrimmed}
-use Rattle.surf_opening.specs.Laws.{TellsCut}
 use Rattle.surf_opening.proofs.cuts.CutLists.{uncut_told}
 use Rattle.surf_opening.proofs.openings.DiscLaw.{border_at}
-use Rattle.surf_opening.proofs.sides.Edges.{edge_of}
 use Rattle.surf_opening.proofs.gluing.Gluing.{uncut_turned}
-use Rattle.surf_opening.proofs.sides.MeshSides.{from_face}
 use Rattle.surf_opening.proofs.openings.Opened.{opened_mesh, opened_is_mesh, CopyOf, same_length, copies_same, same_copies, next_place, lift}
 use Rattle.surf_opening.proofs.openings.OpeningLaw.{surface_sides, opened_along, is_disc}
-use Rattle.surf_opening.proofs.sides.Polygons.{pair_is, pair_among, among_pair}
 use Rattle.surf_opening.proofs.gluing.Trim.{IsOpen, trimmed_is_open}
 use Rattle.surf_opening.proofs.cuts.TwoLeaves.{trimmed_are}
-use Rattle.surf_soup.proofs.SideNumbers.{pair_at_place, face_has_side, one_face}
-use Rattle.surf_soup.proofs.VertexLaws.{placed}
-use Rattle.surf_slit.specs.Labels.{IsUncut}
-use Rattle.surf_cutter.specs.Boundary.{corners_of, HasCopy, IsBorderSide, AreBorderSides, HasPairedBorder, IsCutSide, AreCutSides, OpensToDisc}
-use Rattle.surf_cutter.specs.Trimming.{is_cut}
 use Rattle.surf_cutter.proofs.BorderSides.{corners_at_place, pair_of_corners, side_in_face, its_face, its_edge}
 
 -- where faces are as long, their sides have the same numbers

@@ -1,9 +1,7 @@
 -- Words on the tables of border sides that are being filled.
-use Rattle.std.specs.Prelude.{◌≡◌, ◌≢◌, ℕ, ◌<◌, List, length, slice_index, slice_index_or}
+use Rattle.surf_slit.proofs.Common.{◌≡◌, ◌≢◌, ℕ, ◌<◌, List, length, slice_index, slice_index_or}
+use Rattle.surf_cutter.proofs.Common.{nobody, HasCopy, IsOneOf}
 use Rattle.surf_surfaces.specs.Mesh.{Mesh}
-use Rattle.surf_base.specs.Tables.{nobody}
-use Rattle.surf_cutter.specs.Boundary.{HasCopy}
-use Rattle.surf_cutter.specs.Rims.{IsOneOf}
 
 -- the faces over copies of which there are so many
 abbrev pub over : ℕ → List (List ℕ) → Mesh

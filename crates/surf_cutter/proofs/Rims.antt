@@ -1,16 +1,7 @@
 -- The border sides at the copies, and the corners of a side by its face.
-use Rattle.std.proofs.Common.{◌≡◌, ◌≢◌, ℕ, zero, suc, ◌+◌, ◌-◌, ◌<◌, ◌≤◌, inl, inr, sym, refl, subst, ap, ◌∙◌, cond, List, [], ◌∷◌, length, get_or, take, replicate, eqb, arith, eqb-true}
-use Rattle.surf_surfaces.proofs.Common.{flat_map, sum_by, cases_Bool, cases_eq, eqb-false, Mesh, IsMesh, after, face_at, face_count, side_count, first_side, IsFaceOf, take-length}
-use Rattle.std.proofs.Math.ListN.{set}
-use Rattle.std.proofs.lemmas.List.{map-set, get_or-map, length-set, length-map, length-replicate, get_or-replicate, get_or-set_same, get_or-set_other}
-use Rattle.surf_surfaces.proofs.meshes.SideLaws.{after-below}
-use Rattle.surf_opening.specs.Opening.{IsOpenedBy}
-use Rattle.surf_opening.proofs.sides.Polygons.{same_pair}
-use Rattle.surf_soup.proofs.HalfLaws.{spans}
-use Rattle.surf_soup.proofs.VertexLaws.{corner_at_place, corners_len}
-use Rattle.surf_base.specs.Tables.{nobody}
-use Rattle.surf_cutter.specs.Boundary.{corners_of, HasCopy, IsBorderSide, AreBorderSides, HasPairedBorder}
-use Rattle.surf_cutter.specs.Rims.{HaveSameSizes, AreRims, IsOneOf, LeadsFrom, AreReaches, sides_of, with_reach, other_reach}
+use Rattle.surf_slit.proofs.Common.{◌≡◌, ◌≢◌, ℕ, zero, suc, ◌+◌, ◌-◌, ◌<◌, ◌≤◌, inl, inr, sym, refl, subst, ap, ◌∙◌, cond, List, [], ◌∷◌, length, get_or, take, replicate, eqb, arith, eqb-true, flat_map, sum_by, cases_Bool, cases_eq, eqb-false, Mesh, IsMesh, after, face_at, face_count, side_count, first_side, IsFaceOf, take-length, set, get_or-map, length-set, length-map, length-replicate, get_or-replicate, get_or-set_same, get_or-set_other, after-below, IsOpenedBy, same_pair, spans, corner_at_place, corners_len}
+use Rattle.surf_cutter.proofs.Common.{nobody, corners_of, HasCopy, IsBorderSide, AreBorderSides, HasPairedBorder, HaveSameSizes, AreRims, IsOneOf, LeadsFrom, AreReaches, sides_of, with_reach, other_reach}
+use Rattle.std.proofs.lemmas.List.{map-set}
 use Rattle.surf_cutter.proofs.BorderSides.{corners_at_place}
 use Rattle.surf_cutter.proofs.RimTables.{over, AreRimsTo, IsRimTo, IsListedAt}
 use Rattle.surf_cutter.proofs.BorderTables.{copy_in}

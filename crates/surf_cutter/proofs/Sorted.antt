@@ -1,14 +1,10 @@
 -- Sides in the order of their vertices, and the faces with numbers in place of corners.
-use Rattle.surf_surfaces.proofs.Common.{◌≡◌, ◌≢◌, ℕ, suc, ◌+◌, ◌-◌, ◌<◌, ◌≤◌, inl, inr, sym, subst, ap, ◌∙◌, List, [], ◌∷◌, ◌++◌, length, get_or, eqb, false, arith, cases_lt, eqb-true, ne_eqb, eqb_comm, All-from_get_or, recursion_from_All, Mesh, IsSurface, side_count, nat_cmp, get_or_default, get_or_append_left, get_or-append-add, length-append, length-le_from_distinct_below}
+use Rattle.surf_slit.proofs.Common.{◌≡◌, ◌≢◌, ℕ, suc, ◌+◌, ◌-◌, ◌<◌, ◌≤◌, inl, inr, sym, subst, ap, ◌∙◌, List, [], ◌∷◌, ◌++◌, length, get_or, eqb, false, arith, cases_lt, eqb-true, ne_eqb, eqb_comm, All-from_get_or, recursion_from_All, Mesh, IsSurface, side_count, nat_cmp, get_or_default, get_or_append_left, get_or-append-add, length-append, length-le_from_distinct_below, IsPermutation, All-permutation, Contains-permutation, list_any_at, BeginsAt, IsRing, corners_len, corners_below, corner_at}
+use Rattle.surf_cutter.proofs.Common.{AreSortedTo, IsRowAt, IsBefore}
 use Rattle.std.specs.List.{IsDistinct}
-use Rattle.std.specs.List.Sorted.{IsPermutation, IsSorted}
-use Rattle.std.proofs.lemmas.List.Sorted.{All-permutation, Contains-permutation, IsNonDecreasingBy-from_sort}
+use Rattle.std.specs.List.Sorted.{IsSorted}
+use Rattle.std.proofs.lemmas.List.Sorted.{IsNonDecreasingBy-from_sort}
 use Rattle.std.proofs.lemmas.Map.Keys.{IsDistinct-IsPermutation, IsStrictlyIncreasing-from_distinct, below_from_sorted, sorted_from_strictly_increasing}
-use Rattle.surf_surfaces.proofs.meshes.EdgeLaws.{list_any_at}
-use Rattle.surf_soup.specs.Ring.{BeginsAt, IsRing}
-use Rattle.surf_soup.proofs.VertexLaws.{corners_len, corners_below}
-use Rattle.surf_slit.specs.Labels.{corner_at}
-use Rattle.surf_cutter.specs.Copies.{AreSortedTo, IsRowAt, IsBefore}
 
 -- a list of all sides, by the vertices at which they begin and at one vertex by number
 pub record AreSorted (mesh : Mesh) (order : List ℕ) : Type 0 where

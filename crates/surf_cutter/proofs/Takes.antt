@@ -1,19 +1,10 @@
 -- Taking a cut back to given vertices.
-use Rattle.std.proofs.Common.{◌≡◌, ◌≢◌, ℕ, ◌+◌, ◌<◌, ◌≤◌, inl, inr, refl, sym, subst, ap, ◌∙◌, eqb, List, length, take, get_or, Bool, true, false, not, ◌||◌, arith, ne_eqb}
-use Rattle.std.proofs.Math.ListN.{set}
-use Rattle.surf_surfaces.proofs.Common.{cases_eq, eq-eqb, or_right, Contains, count_below, Chain, Tree, Mesh, edge_count, IsSurface}
-use Rattle.std.proofs.lemmas.List.{get_or-set_same, get_or-set_other}
+use Rattle.surf_slit.proofs.Common.{◌≡◌, ◌≢◌, ℕ, ◌+◌, ◌<◌, ◌≤◌, inl, inr, refl, sym, subst, ap, ◌∙◌, eqb, List, length, take, get_or, Bool, true, false, not, ◌||◌, arith, ne_eqb, set, cases_eq, eq-eqb, or_right, Contains, count_below, Chain, Tree, Mesh, edge_count, IsSurface, get_or-set_same, get_or-set_other}
+use Rattle.surf_cutter.proofs.Common.{AreDivided, full_cut, cut_count, some_list, taken_back_are_trimmed, is_point, through, MarksCotree, IsHeld, IsNearFor, IsChosenCut, AreTurnedOver, is_cut, is_marked, AreDegrees, IsTakenBack, IsTakenFrom, IsTakenTo, HasNoLooseBelow, HasMarkedEnds}
 use Rattle.std.proofs.lemmas.List.Folds.{list_any_more, list_any_at}
-use Rattle.surf_opening.specs.ChosenCut.{AreDivided, full_cut}
-use Rattle.surf_opening.specs.Laws.{cut_count}
-use Rattle.surf_opening.proofs.openings.ChosenOpenings.{some_list}
 use Rattle.surf_seams.specs.Through.{IsCutThrough, IsTakenBackTo}
 use Rattle.surf_seams.proofs.AtBase.{full_cuts_start}
-use Rattle.surf_seams.proofs.Openings.{taken_back_are_trimmed}
 use Rattle.surf_seams.proofs.Taking.{taking_back_goes_on, taken_back_are_through}
-use Rattle.surf_cutter.specs.Kinds.{is_point, through}
-use Rattle.surf_cutter.specs.Opened.{MarksCotree, IsHeld, IsNearFor, IsChosenCut, AreTurnedOver}
-use Rattle.surf_cutter.specs.Trimming.{is_cut, is_marked, AreDegrees, IsTakenBack, IsTakenFrom, IsTakenTo, HasNoLooseBelow, HasMarkedEnds}
 use Rattle.surf_cutter.proofs.Trims.{flag_off}
 
 -- ---- marks

@@ -1,18 +1,7 @@
 -- Counts of cut edges while a cut is trimmed.
-use Rattle.std.proofs.Common.{◌≡◌, ◌≢◌, ℕ, suc, ◌+◌, ◌-◌, ◌<◌, ◌≤◌, ◌⊎◌, ◌&&◌, not, inl, inr, sym, refl, subst, ap, ◌∙◌, eqb, List, ◌∷◌, length, get_or, Bool, true, false, IsTrue, arith, ne_eqb}
-use Rattle.std.proofs.Math.ListN.{set}
-use Rattle.surf_surfaces.proofs.Common.{cases_eq, cases_lt, and_from, and_parts, eq-eqb, Chain, count_below-same, count_below-without, eqb_comm, Mesh, pair, edge_count, ends, touches, IsSurface, slice_index, count_found}
-use Rattle.std.proofs.lemmas.List.{get_or-set_same, get_or-set_other, length-set, get_or_default}
-use Rattle.surf_surfaces.proofs.meshes.CellLaws.{ends_below}
-use Rattle.surf_surfaces.proofs.meshes.FaceLaws.{pair_comm}
-use Rattle.surf_opening.specs.Laws.{TellsCut, cut_count, without}
-use Rattle.surf_surfaces.specs.Degrees.{degree_in, is_in_at}
-use Rattle.surf_surfaces.proofs.meshes.DegreeLaws.{touches_end, touches_no}
-use Rattle.surf_opening.proofs.gluing.Cotrees.{ends_pair}
-use Rattle.surf_opening.proofs.counts.CutCounts.{trimming_by_greatest_goes_on}
-use Rattle.surf_soup.specs.Ring.{AreEdgesAt}
+use Rattle.surf_slit.proofs.Common.{◌≡◌, ◌≢◌, ℕ, suc, ◌+◌, ◌-◌, ◌<◌, ◌≤◌, ◌⊎◌, ◌&&◌, not, inl, inr, sym, refl, subst, ap, ◌∙◌, eqb, List, ◌∷◌, length, get_or, Bool, true, false, IsTrue, arith, ne_eqb, set, cases_eq, cases_lt, and_from, and_parts, eq-eqb, Chain, count_below-same, count_below-without, eqb_comm, Mesh, pair, edge_count, ends, touches, IsSurface, slice_index, count_found, get_or-set_same, get_or-set_other, length-set, get_or_default, ends_below, pair_comm, degree_in, is_in_at, touches_end, touches_no, ends_pair, AreEdgesAt}
+use Rattle.surf_cutter.proofs.Common.{TellsCut, cut_count, without, trimming_by_greatest_goes_on, is_cut, AreDegrees, IsTakenBack, IsTrimmedFrom, HasNoLeafFrom, HasEndedBy}
 use Rattle.surf_slit.proofs.VertexLabels.{an_end}
-use Rattle.surf_cutter.specs.Trimming.{is_cut, AreDegrees, IsTakenBack, IsTrimmedFrom, HasNoLeafFrom, HasEndedBy}
 
 -- while more than two edges are cut, no vertex from low on but this one has exactly one (HasNoLeafFrom is of all)
 abbrev pub HasNoOtherLeaf : Mesh → ℕ → ℕ → List ℕ → ℕ → Type 0

@@ -1,24 +1,10 @@
 -- Caps as great as edges ask for meet all closed walks, so what is kept has the places of the basis.
-use Rattle.surf_surfaces.proofs.Common.{◌≡◌, ℕ, zero, suc, ◌<◌, ◌≤◌, ◌^◌, ◌==◌, ◌&&◌, true, eqb-true, List, [], ◌∷◌, length, get_or, map, take, All, Contains, Option, Some, None, refl, sym, ap, ◌∙◌, subst, arith, inl, inr, IsTrue, nat_le, slice_index, min, cases_Bool, cases_lt, leb-true, le-leb, or_cases, or_left, or_right, and_from, and_parts, false≢true, nat_tests, numbers, Independent, Spanned, sorted_from_order, Split, IsSplit, signature, Tree, Mesh, edge_count, ends, IsSurface, IsClosed, ArePositive, IsIndependent, IsLoopCount, cells_of, class_of, AreShortestTrees, edge_signature, Trees, AreChosen, Loop, IsChosenBasis, length-map, take-map, get_or-map, recursion_from_All, All-from_recursion, All-contains, small, Place, place_at, is_no_later, Found, HasFound, IsWithin, walks_found, comes_no_later, place_of_loop, MeetsAll}
-use Rattle.surf_surfaces.proofs.classes.ClassLaws.{independent_by_classes}
-use Rattle.surf_surfaces.proofs.classes.LeastLaws.{all_mapped}
+use Rattle.surf_search.proofs.Common.{◌≡◌, ℕ, zero, suc, ◌<◌, ◌≤◌, ◌^◌, ◌==◌, ◌&&◌, true, eqb-true, List, [], ◌∷◌, length, get_or, map, take, All, Contains, Option, Some, None, refl, sym, ap, ◌∙◌, subst, arith, inl, inr, IsTrue, nat_le, slice_index, min, cases_Bool, cases_lt, leb-true, le-leb, or_cases, or_left, or_right, and_from, and_parts, false≢true, nat_tests, numbers, Independent, Spanned, sorted_from_order, Split, IsSplit, signature, Tree, Mesh, edge_count, ends, IsSurface, IsClosed, ArePositive, IsIndependent, IsLoopCount, cells_of, class_of, AreShortestTrees, edge_signature, Trees, AreChosen, Loop, IsChosenBasis, length-map, take-map, get_or-map, recursion_from_All, All-from_recursion, All-contains, small, Place, place_at, is_no_later, Found, HasFound, IsWithin, walks_found, comes_no_later, place_of_loop, MeetsAll, independent_by_classes, all_mapped, Sought, AreSized, AreEnoughFor, HaveAskedEnds, MeetsUpTo, asks, both, either, everywhere, limited, caps_grow_enough, both_start, limited_start, found_are_walks, CotreeTables, Candidate, Signed, Chosen, signatures, place_of, is_sought, last_of, limit_of, stands_before, before_last, limit_none, limit_last, is_among, is_within_cap, cap_at, in_caps, AreKeptTo, IsAsked, HasCappedEnd, AreCapped, AreSigned, AreSignatures}
 use Rattle.surf_caps.specs.Heights.{AreHeights}
-use Rattle.surf_caps.specs.Caps.{Sought, AreSized, AreEnoughFor, HaveAskedEnds, MeetsUpTo, asks, both, either, everywhere, limited}
 use Rattle.surf_caps.proofs.Covers.{enough_everywhere}
-use Rattle.surf_caps.proofs.Grow.{caps_grow_enough}
 use Rattle.surf_caps.proofs.Heights.{asked_ends_meet}
 use Rattle.surf_caps.proofs.Images.{everywhere_meets, meets_fewer, sets_meet}
 use Rattle.surf_caps.proofs.Places.{enough_have_places, full_count_has_places}
-use Rattle.surf_caps.proofs.Starts.{both_start, limited_start, found_are_walks}
-use Rattle.surf_cotree.specs.Tables.{CotreeTables}
-use Rattle.surf_choice.specs.declared.candidate.Candidate.{Candidate}
-use Rattle.surf_choice.specs.declared.candidate.Signed.{Signed}
-use Rattle.surf_choice.specs.Candidates.{Chosen, signatures}
-use Rattle.surf_choice.specs.Places.{place_of, is_sought, last_of, limit_of, stands_before}
-use Rattle.surf_choice.proofs.Limits.{before_last, limit_none, limit_last}
-use Rattle.surf_search.specs.Found.{is_among}
-use Rattle.surf_search.specs.Rounds.{is_within_cap, cap_at, in_caps, AreKeptTo, IsAsked, HasCappedEnd, AreCapped}
-use Rattle.surf_search.specs.Signing.{AreSigned, AreSignatures}
 use Rattle.surf_search.proofs.Capped.{within_start, limit_start}
 use Rattle.surf_search.proofs.Climbed.{at_edge}
 use Rattle.surf_search.proofs.Looped.{tells_sizes, tells_walks, tells_long, tells_at, tells_order, signed_of}

@@ -1,28 +1,7 @@
 -- What is kept of the loops at vertices that are searched as far as their caps, search by search.
-use Rattle.surf_surfaces.proofs.Common.{◌≡◌, ℕ, suc, ◌<◌, ◌≤◌, ◌≢◌, ◌+◌, ◌-◌, ◌*◌, ◌^◌, Bool, true, false, eqb, leb, leb-true, le-leb, not, List, [], ◌++◌, length, get_or, map, filter, take, All, Contains, IsPermutation, Option, Some, None, refl, sym, ap, ◌∙◌, subst, arith, inl, inr, IsTrue, ◌&&◌, cases_eq, or_cases, or_left, or_right, and_parts, and_from, nat_tests, merge, greedy, numbers, is_nothing, Decides-is_nothing, Independent, Spanned, InSpan, AllInSpan, trans_in, in_from_spanned, spanned_from_in, zero_in, member_in, Split, IsSplit, Tree, Mesh, edge_count, IsSurface, IsClosed, ArePositive, cells_of, class_of, AreShortestTrees, loop_walk, loop_length, Place, place_at, Found, IsFoundLoop, is_within, walks_found, walks_within, DependsOn, DependsAtPlace, comes_no_later, least_base, Contains-permutation, All-permutation, IsPermutation-sym, cases_lt, false≢true, All-take, take_more, IsNonDecreasingBy, chosen, Sorted, sorted_from_order, order_from_sorted, sorted_greedy, greedy_law, same_members, IsInOrder, recursion_from_All, All-from_recursion, AllByRecursion, All-append, All-contains, Contains-append_left, Contains-append_right, Contains-get_or, get_or-take, length-take-le, map-map, get_or_default, all_filtered, IsNull, IsFoundAt, is_no_later, place_of_found, ◌∷◌, ◌||◌, ◌⊎◌}
-use Rattle.std.proofs.lemmas.List.Elements.{Contains-append_cases}
-use Rattle.surf_surfaces.proofs.bases.FirstFoundLaws.{loop_closed}
-use Rattle.surf_surfaces.proofs.bases.FewBasesLaws.{no_later-same}
-use Rattle.surf_surfaces.proofs.classes.ClassLaws.{null_by_class}
-use Rattle.surf_surfaces.proofs.bases.FoundLaws.{greedy_is_found_choice}
-use Rattle.surf_surfaces.proofs.bases.GreedyChoiceLaws.{depends_from_spanned}
-use Rattle.surf_surfaces.proofs.classes.LeastLaws.{all_mapped}
-use Rattle.surf_firsts.specs.Near.{AgreeOff, is_shorter_by, IsSoughtFromStart}
-use Rattle.surf_caps.specs.Barred.{DependOnShorterOr, with_near_places}
-use Rattle.surf_caps.specs.Caps.{Sought, AreSoughtFromStart, AreEnoughFor, CapsGrow, IsFoundBy, with_places, everywhere, limited, both, up_to_length, ChoiceKeeps}
+use Rattle.surf_search.proofs.Common.{◌≡◌, ℕ, suc, ◌<◌, ◌≤◌, ◌≢◌, ◌+◌, ◌-◌, ◌*◌, ◌^◌, Bool, true, false, eqb, leb, leb-true, le-leb, not, List, [], ◌++◌, length, get_or, map, filter, take, All, Contains, IsPermutation, Option, Some, None, refl, sym, ap, ◌∙◌, subst, arith, inl, inr, IsTrue, ◌&&◌, cases_eq, or_cases, or_left, or_right, and_parts, and_from, nat_tests, merge, greedy, numbers, is_nothing, Decides-is_nothing, Independent, Spanned, InSpan, AllInSpan, trans_in, in_from_spanned, spanned_from_in, zero_in, member_in, Split, IsSplit, Tree, Mesh, edge_count, IsSurface, IsClosed, ArePositive, cells_of, class_of, AreShortestTrees, loop_walk, loop_length, Place, place_at, Found, IsFoundLoop, is_within, walks_found, walks_within, DependsOn, DependsAtPlace, comes_no_later, least_base, Contains-permutation, All-permutation, IsPermutation-sym, cases_lt, false≢true, All-take, take_more, IsNonDecreasingBy, chosen, Sorted, sorted_from_order, order_from_sorted, sorted_greedy, greedy_law, same_members, IsInOrder, recursion_from_All, All-from_recursion, AllByRecursion, All-append, All-contains, Contains-append_left, Contains-append_right, Contains-get_or, get_or-take, length-take-le, map-map, get_or_default, all_filtered, IsNull, IsFoundAt, is_no_later, place_of_found, ◌∷◌, ◌||◌, ◌⊎◌, Contains-append_cases, loop_closed, no_later-same, null_by_class, greedy_is_found_choice, depends_from_spanned, all_mapped, AgreeOff, is_shorter_by, IsSoughtFromStart, DependOnShorterOr, with_near_places, Sought, AreSoughtFromStart, AreEnoughFor, CapsGrow, IsFoundBy, with_places, everywhere, limited, both, up_to_length, ChoiceKeeps, caps_grow_enough, both_start, limited_start, found_are_walks, Candidate, Signed, Chosen, signed_earlier, independent_of, signatures, IsLonger, IsSumOfLength, place_of, is_sought, limit_of, order_of, stands_before, merged_sorted, limit_falls, shorter_first, IsFound, AreFoundBy, found_of, AreNoShorter, spare_of, is_within_cap, IsCapped, IsWider, AreKeptTo, AreLongerOr, told_of, told_by}
 use Rattle.surf_caps.proofs.Barring.{barred_searches_suffice, near_places_need_no_more}
-use Rattle.surf_caps.proofs.Grow.{caps_grow_enough}
 use Rattle.surf_caps.proofs.Over.{within, depends_within}
-use Rattle.surf_caps.proofs.Starts.{both_start, limited_start, found_are_walks}
-use Rattle.surf_choice.specs.declared.candidate.Candidate.{Candidate}
-use Rattle.surf_choice.specs.declared.candidate.Signed.{Signed}
-use Rattle.surf_choice.specs.Candidates.{Chosen, signed_earlier, independent_of, signatures, IsLonger, IsSumOfLength}
-use Rattle.surf_choice.specs.Places.{place_of, is_sought, limit_of, order_of, stands_before}
-use Rattle.surf_choice.proofs.Limits.{merged_sorted, limit_falls}
-use Rattle.surf_choice.proofs.Longer.{shorter_first}
-use Rattle.surf_search.specs.Found.{IsFound, AreFoundBy, found_of}
-use Rattle.surf_search.specs.Passing.{AreNoShorter, spare_of}
-use Rattle.surf_search.specs.Rounds.{is_within_cap, IsCapped, IsWider, AreKeptTo, AreLongerOr, told_of, told_by}
 use Rattle.surf_search.proofs.Looped.{tells_classes, tells_long, tells_at, tells_order, tells_chosen, turned, founds_told, signed_of}
 use Rattle.surf_search.proofs.PassedOver.{no_longer, shorter_sooner, all_signed}
 use Rattle.surf_search.proofs.Searched.{loops_found, places_found, no_fewer, of_choice, zero_null, depends_null}

@@ -1,14 +1,5 @@
 -- Caps of vertices: the earlier of a limit and a cap, caps that rise, and what edges ask for.
-use Rattle.surf_surfaces.proofs.Common.{◌≡◌, ℕ, ◌<◌, ◌≤◌, ◌+◌, true, List, [], ◌∷◌, ◌++◌, length, get_or, set, replicate, All, Contains, IsPermutation, Option, Some, None, refl, sym, ap, ◌∙◌, subst, arith, inl, inr, nat_le, slice_index, min, cases_eq, cases_lt, leb-true, le-leb, or_cases, or_left, nat_tests, Contains-permutation, Mesh, edge_count, ends, IsSurface, Place, comes_sooner, All-contains, Contains-append_left, Contains-append_right}
-use Rattle.std.proofs.lemmas.List.{get_or-set_same, get_or-set_other, get_or_past, get_or-replicate, length-replicate}
-use Rattle.surf_surfaces.proofs.meshes.CellLaws.{ends_in}
-use Rattle.surf_cotree.specs.Tables.{CotreeTables}
-use Rattle.surf_choice.specs.declared.candidate.Candidate.{Candidate}
-use Rattle.surf_choice.specs.declared.candidate.Signed.{Signed}
-use Rattle.surf_choice.specs.Places.{is_sought}
-use Rattle.surf_search.specs.declared.caps.Ask.{Ask}
-use Rattle.surf_search.specs.Rounds.{is_within_cap, cap_at, IsCapped, IsAsked, HasCappedEnd, AreCapped, AreNoLess, AreAsks, AreRising}
-use Rattle.surf_search.specs.Marks.{by_degree}
+use Rattle.surf_search.proofs.Common.{◌≡◌, ℕ, ◌<◌, ◌≤◌, ◌+◌, true, List, [], ◌∷◌, ◌++◌, length, get_or, set, replicate, All, Contains, IsPermutation, Option, Some, None, refl, sym, ap, ◌∙◌, subst, arith, inl, inr, nat_le, slice_index, min, cases_eq, cases_lt, leb-true, le-leb, or_cases, or_left, nat_tests, Contains-permutation, Mesh, edge_count, ends, IsSurface, Place, comes_sooner, All-contains, Contains-append_left, Contains-append_right, get_or-set_same, get_or-set_other, get_or_past, get_or-replicate, length-replicate, ends_in, CotreeTables, Candidate, Signed, is_sought, Ask, is_within_cap, cap_at, IsCapped, IsAsked, HasCappedEnd, AreCapped, AreNoLess, AreAsks, AreRising, by_degree}
 use Rattle.surf_search.proofs.Asked.{within_by_none}
 use Rattle.surf_search.proofs.Counted.{as_read_or_turned}
 

@@ -1,7 +1,5 @@
 -- What a table of signatures has for an edge.
-use Rattle.surf_surfaces.proofs.Common.{◌≡◌, ℕ, ◌<◌, List, slice_index, ap, ◌∙◌, arith, get_or-map-range_with_len, Split, Mesh, edge_count, edge_signature}
-use Rattle.surf_cotree.specs.Tables.{CotreeTables}
-use Rattle.surf_search.specs.Signing.{AreSignatures}
+use Rattle.surf_search.proofs.Common.{◌≡◌, ℕ, ◌<◌, List, slice_index, ap, ◌∙◌, arith, get_or-map-range_with_len, Split, Mesh, edge_count, edge_signature, CotreeTables, AreSignatures}
 
 pub at_edge : (mesh : Mesh) (d : Split) (t : CotreeTables) (e : ℕ) → AreSignatures mesh d t → e < edge_count mesh →
     slice_index t.signatures e ≡ edge_signature mesh d e

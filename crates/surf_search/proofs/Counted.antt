@@ -1,11 +1,5 @@
 -- How many edges with signatures that aren't empty there are at each vertex, and their ends in order of that.
-use Rattle.std.proofs.Common.{not, ◌≡◌, ◌≢◌, ℕ, ◌+◌, ◌<◌, ◌⊎◌, inl, inr, sym, refl, subst, ap, ◌∙◌, List, length, get_or, arith, ne_eqb}
-use Rattle.surf_surfaces.proofs.Common.{nat_lt, slice_index, slice_set, cases_Bool, Mesh, edge_count, ends, IsSurface, AreDegreesTo}
-use Rattle.std.proofs.lemmas.List.{get_or-set_same, get_or-set_other, length-set}
-use Rattle.surf_surfaces.proofs.meshes.CellLaws.{ends_below}
-use Rattle.surf_cotree.specs.Tables.{CotreeTables}
-use Rattle.surf_surfaces.proofs.meshes.DegreeLaws.{degrees_more}
-use Rattle.surf_search.specs.Marks.{by_degree, is_signed}
+use Rattle.surf_search.proofs.Common.{not, ◌≡◌, ◌≢◌, ℕ, ◌+◌, ◌<◌, ◌⊎◌, inl, inr, sym, refl, subst, ap, ◌∙◌, List, length, get_or, arith, ne_eqb, nat_lt, slice_index, slice_set, cases_Bool, Mesh, edge_count, ends, IsSurface, AreDegreesTo, get_or-set_same, get_or-set_other, length-set, ends_below, CotreeTables, degrees_more, by_degree, is_signed}
 
 -- one entry of a table is made one more
 pub record IsRaised (at : ℕ) (old new : List ℕ) : Type 0 where

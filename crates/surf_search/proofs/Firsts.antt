@@ -1,10 +1,5 @@
 -- The first of the loops that a search tells, without a list of them.
-use Rattle.surf_surfaces.proofs.Common.{◌≡◌, ℕ, ◌<◌, ◌≤◌, ◌+◌, true, false, List, [], ◌∷◌, ◌++◌, length, All, Option, Some, None, refl, sym, ◌∙◌, ap, inl, inr, slice_index, cases_Bool, both_ways, edge_count, ends, fold-append}
-use Rattle.surf_near.specs.declared.links.Link.{Link}
-use Rattle.surf_near.specs.Links.{AreLinksAt, link_in}
-use Rattle.surf_choice.specs.declared.candidate.Candidate.{Candidate}
-use Rattle.surf_choice.specs.declared.candidate.Signed.{Signed}
-use Rattle.surf_search.specs.Found.{Search, IsTold, is_wanted, told_loop, earlier_of, first_from, is_earlier, first_with, IsFirstTold}
+use Rattle.surf_search.proofs.Common.{◌≡◌, ℕ, ◌<◌, ◌≤◌, ◌+◌, true, false, List, [], ◌∷◌, ◌++◌, length, All, Option, Some, None, refl, sym, ◌∙◌, ap, inl, inr, slice_index, cases_Bool, both_ways, edge_count, ends, fold-append, Link, AreLinksAt, link_in, Candidate, Signed, Search, IsTold, is_wanted, told_loop, earlier_of, first_from, is_earlier, first_with, IsFirstTold}
 use Rattle.surf_search.proofs.Told.{IsListedAt, listed_first, listed_push, listed_same, listed_all, lists_more}
 
 earlier_kept : (first : Option Candidate) (s : Signed) → is_earlier first s.candidate ≡ true → first ≡ earlier_of first s

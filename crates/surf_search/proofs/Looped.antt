@@ -1,14 +1,7 @@
 -- The loops of which kept candidates tell.
-use Rattle.surf_surfaces.proofs.Common.{◌≡◌, ℕ, zero, suc, ◌<◌, ◌++◌, Bool, true, List, [], ◌∷◌, length, get_or, map, set, All, Contains, IsPermutation, refl, sym, ap, ◌∙◌, subst, arith, numbers, is_nothing, greedy, IsInOrder, Split, Tree, Mesh, class_of, loop_walk, map-map, map-append, length-map, get_or-map, recursion_from_All, AllByRecursion, Found, walks_found, comes_no_later}
+use Rattle.surf_search.proofs.Common.{◌≡◌, ℕ, zero, suc, ◌<◌, ◌++◌, Bool, true, List, [], ◌∷◌, length, get_or, map, set, All, Contains, IsPermutation, refl, sym, ap, ◌∙◌, subst, arith, numbers, is_nothing, greedy, IsInOrder, Split, Tree, Mesh, class_of, loop_walk, map-map, map-append, length-map, get_or-map, recursion_from_All, AllByRecursion, Found, walks_found, comes_no_later, map-set, length-append, Signed, independent_of, signatures, stands_before, greedy_mapped, IsFound, found_of, told_of, told_by}
 use Rattle.std.specs.List.{swap}
 use Rattle.std.specs.List.Sorted.{apply_swaps, SwapsInRange}
-use Rattle.std.proofs.lemmas.List.{map-set, length-append}
-use Rattle.surf_choice.specs.declared.candidate.Signed.{Signed}
-use Rattle.surf_choice.specs.Candidates.{independent_of, signatures}
-use Rattle.surf_choice.specs.Places.{stands_before}
-use Rattle.surf_choice.proofs.Sifted.{greedy_mapped}
-use Rattle.surf_search.specs.Found.{IsFound, found_of}
-use Rattle.surf_search.specs.Rounds.{told_of, told_by}
 
 -- ---- elements that change places with their images
 

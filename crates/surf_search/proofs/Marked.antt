@@ -1,11 +1,7 @@
 -- Vertices that are marked in a table, listed one after another.
-use Rattle.std.proofs.Common.{◌≡◌, ℕ, ◌<◌, ◌≤◌, ◌+◌, Bool, true, false, List, [], ◌∷◌, ◌++◌, length, set, slice_index, take, Contains, refl, sym, ap, ◌∙◌, subst, arith, inl, inr, length-append}
-use Rattle.surf_surfaces.proofs.Common.{slice_index_or, ◌⊎◌, cases_lt, cases_eq, Mesh, edge_count, ends, IsSurface, Contains-append_left, Contains-append_right}
+use Rattle.surf_search.proofs.Common.{◌≡◌, ℕ, ◌<◌, ◌≤◌, ◌+◌, Bool, true, false, List, [], ◌∷◌, ◌++◌, length, set, slice_index, take, Contains, refl, sym, ap, ◌∙◌, subst, arith, inl, inr, length-append, slice_index_or, ◌⊎◌, cases_lt, cases_eq, Mesh, edge_count, ends, IsSurface, Contains-append_left, Contains-append_right, take-append_seam, get_or-set_same, get_or-set_other, ends_in, AreMarkedIn}
 use Rattle.std.proofs.Math.ListN.{get_or-append}
-use Rattle.std.proofs.Math.Seq.{get_or-append_seam, take-append_seam}
-use Rattle.std.proofs.lemmas.List.{get_or-set_same, get_or-set_other}
-use Rattle.surf_surfaces.proofs.meshes.CellLaws.{ends_in}
-use Rattle.surf_search.specs.Marks.{AreMarkedIn}
+use Rattle.std.proofs.Math.Seq.{get_or-append_seam}
 
 pub marked_none : (marked : List Bool) (list : List ℕ) → list ≡ [] → AreMarkedIn marked 0 list
 marked_none marked list is = subst (AreMarkedIn marked 0) (sym is) (record {

@@ -1,16 +1,5 @@
 -- The first of the loops at the vertices of a set stays the first with vertices near one where all loops are longer.
-use Rattle.surf_surfaces.proofs.Common.{◌≡◌, ◌≢◌, ℕ, ◌<◌, ◌≤◌, ◌+◌, ◌*◌, Bool, true, false, List, [], ◌∷◌, Option, Some, sym, ◌∙◌, subst, arith, inl, inr, cases_Bool, cases_eq, false≢true, nat_tests, xor-false, Split, IsSplit, Tree, Mesh, edge_count, IsSurface, ArePositive, parity, IsNull, cells_of, class_of, AreShortestTrees, loop_walk, loop_length, DependsOn, Place, is_no_later, comes_sooner, place_at, AreEnoughOf}
-use Rattle.surf_surfaces.proofs.bases.ChoiceExists.{choice_exists}
-use Rattle.surf_surfaces.proofs.classes.ClassLaws.{null_by_class}
-use Rattle.surf_surfaces.proofs.bases.FirstCycleLaws.{shortest_trees}
-use Rattle.surf_surfaces.proofs.bases.FirstFoundLaws.{loop_closed}
-use Rattle.surf_firsts.specs.Near.{AgreeOff, with_near}
-use Rattle.surf_firsts.proofs.NearVertices.{near_vertices_need_no_more}
-use Rattle.surf_choice.specs.declared.candidate.Candidate.{Candidate}
-use Rattle.surf_choice.specs.Places.{place_of, is_sought}
-use Rattle.surf_cotree.specs.Tables.{CotreeTables}
-use Rattle.surf_search.specs.Found.{SurfaceTables, IsFirstOf, IsFirstAt}
-use Rattle.surf_search.specs.Passing.{is_marked, AreMarkedNear, IsAhead, IsFirstIn, StaysFirst}
+use Rattle.surf_search.proofs.Common.{◌≡◌, ◌≢◌, ℕ, ◌<◌, ◌≤◌, ◌+◌, ◌*◌, Bool, true, false, List, [], ◌∷◌, Option, Some, sym, ◌∙◌, subst, arith, inl, inr, cases_Bool, cases_eq, false≢true, nat_tests, xor-false, Split, IsSplit, Tree, Mesh, edge_count, IsSurface, ArePositive, parity, IsNull, cells_of, class_of, AreShortestTrees, loop_walk, loop_length, DependsOn, Place, is_no_later, comes_sooner, place_at, AreEnoughOf, choice_exists, null_by_class, shortest_trees, loop_closed, AgreeOff, with_near, near_vertices_need_no_more, Candidate, place_of, is_sought, CotreeTables, SurfaceTables, IsFirstOf, IsFirstAt, is_marked, AreMarkedNear, IsAhead, IsFirstIn, StaysFirst}
 use Rattle.surf_search.proofs.PassedOver.{sought_before, no_longer, all_near}
 use Rattle.surf_search.proofs.FirstFound.{IsNoLater, least_found, first_fewer}
 use Rattle.surf_search.proofs.Searched.{depends_null, zero_null}

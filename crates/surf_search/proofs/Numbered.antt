@@ -1,14 +1,5 @@
 -- The classes of the ways from the base of a search, vertex by vertex.
-use Rattle.std.proofs.Common.{◌≡◌, ◌≢◌, ℕ, ◌<◌, ◌≤◌, ◌+◌, true, false, List, length, slice_index, bit_xor, get_or, sym, ap, ◌∙◌, subst, arith, inl, inr, eq-eqb}
-use Rattle.surf_surfaces.proofs.Common.{◌==◌, cases_eq, cases_lt, leb-true, nat_tests, get_or_read, Tree, Mesh, edge_count, IsSurface, ArePositive, edge_number, IsShortestTree, edge_signature}
-use Rattle.std.specs.Int.Bits.{xor_comm}
-use Rattle.surf_surfaces.proofs.bases.ChoiceExists.{choice_exists}
-use Rattle.surf_surfaces.proofs.walks.ShortestTreeLaws.{shortest_is_tree}
-use Rattle.surf_signatures.specs.Ways.{way_class}
-use Rattle.surf_signatures.proofs.WayLaws.{way_none, way_more}
-use Rattle.surf_cotree.specs.Tables.{CotreeTables}
-use Rattle.surf_near.specs.Near.{NearTables, IsNear, IsNearTo}
-use Rattle.surf_search.specs.Ways.{WayTables, class_at, IsWayAt, AreWays, IsNumbered, HasParent}
+use Rattle.surf_search.proofs.Common.{◌≡◌, ◌≢◌, ℕ, ◌<◌, ◌≤◌, ◌+◌, true, false, List, length, slice_index, bit_xor, get_or, sym, ap, ◌∙◌, subst, arith, inl, inr, eq-eqb, ◌==◌, cases_eq, cases_lt, leb-true, nat_tests, get_or_read, Tree, Mesh, edge_count, IsSurface, ArePositive, edge_number, IsShortestTree, edge_signature, xor_comm, choice_exists, shortest_is_tree, way_class, way_none, way_more, CotreeTables, NearTables, IsNear, IsNearTo, WayTables, class_at, IsWayAt, AreWays, IsNumbered, HasParent}
 use Rattle.surf_search.proofs.Climbed.{at_edge}
 
 -- the first of those that were settled have it

@@ -1,12 +1,5 @@
 -- Links that the listing of loops passes over.
-use Rattle.surf_surfaces.proofs.Common.{◌≡◌, ◌≢◌, ◌⊎◌, ℕ, ◌<◌, ◌≤◌, true, false, not, List, length, get_or, slice_index, bit_xor, inl, inr, sym, ap, ◌∙◌, subst, arith, ◌==◌, and_parts, false≢true, nat_tests, get_or_default, Mesh, IsMesh, edge_count, ends, xor_self, xor_zero_r}
-use Rattle.surf_surfaces.proofs.meshes.CellLaws.{ends_below}
-use Rattle.surf_near.specs.declared.links.Link.{Link}
-use Rattle.surf_near.specs.Links.{AreLinksAt, link_in}
-use Rattle.surf_near.specs.Near.{is_near}
-use Rattle.surf_near.proofs.Linking.{item_in, item_edge_in, link_ends}
-use Rattle.surf_search.specs.Ways.{class_at}
-use Rattle.surf_search.specs.Found.{Search, is_between, told_loop, IsLinkOf, IsUnwantedAt}
+use Rattle.surf_search.proofs.Common.{◌≡◌, ◌≢◌, ◌⊎◌, ℕ, ◌<◌, ◌≤◌, true, false, not, List, length, get_or, slice_index, bit_xor, inl, inr, sym, ap, ◌∙◌, subst, arith, ◌==◌, and_parts, false≢true, nat_tests, get_or_default, Mesh, IsMesh, edge_count, ends, xor_self, xor_zero_r, ends_below, Link, AreLinksAt, link_in, is_near, item_in, item_edge_in, link_ends, class_at, Search, is_between, told_loop, IsLinkOf, IsUnwantedAt}
 
 -- one of the links of a vertex
 pub link_of_row : (mesh : Mesh) (lengths : List ℕ) (v : ℕ) (links : List Link) → IsMesh mesh → AreLinksAt mesh lengths v links →

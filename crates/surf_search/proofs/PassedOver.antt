@@ -1,25 +1,6 @@
 -- Vertices near one that was searched, which are passed over where the loops found there are all longer than those kept,
 -- though the search went by lengths that bar the ways through vertices for which what is kept is enough.
-use Rattle.std.proofs.Common.{◌≡◌, ℕ, suc, ◌<◌, ◌≤◌, ◌+◌, ◌*◌, ◌⊎◌, Bool, true, false, eqb, leb, le-leb, List, [], ◌∷◌, length, get_or, map, filter, take, All, Contains, Option, Some, None, sym, ap, ◌∙◌, subst, arith, inl, inr, set, get_or-set_other}
-use Rattle.surf_surfaces.proofs.Common.{IsTrue, ◌||◌, ◌==◌, replicate, slice_index, AllByRecursion, cases_eq, cases_lt, false≢true, or_cases, or_left, or_right, eq-eqb, eqb-true, nat_tests, get_or-take, get_or_default, get_or_past, get_or-replicate, length-replicate, length-take-le, recursion_from_All, All-contains, Contains-get_or, map-map, IsInOrder, numbers, Spanned, InSpan, AllInSpan, trans_in, in_from_spanned, spanned_from_in, Split, IsSplit, Tree, Mesh, edge_count, IsSurface, IsClosed, ArePositive, cells_of, class_of, AreShortestTrees, loop_walk, loop_length, DependsOn, member_in, all_filtered, Place, is_no_later, comes_sooner, place_at, least_base, Found, walks_found, with_vertex}
-use Rattle.surf_surfaces.proofs.bases.CoveredLaws.{contains-map}
-use Rattle.surf_surfaces.proofs.bases.ChoiceExists.{choice_exists}
-use Rattle.surf_surfaces.proofs.bases.FirstCycleLaws.{shortest_trees}
-use Rattle.surf_surfaces.proofs.walks.OnTheWayLaws.{zero_distance}
-use Rattle.surf_surfaces.proofs.bases.FirstFoundLaws.{loop_closed}
-use Rattle.surf_surfaces.proofs.bases.FoundLaws.{found_closed}
-use Rattle.surf_surfaces.proofs.bases.GreedyChoiceLaws.{depends_from_spanned}
-use Rattle.surf_surfaces.proofs.classes.LeastLaws.{all_mapped}
-use Rattle.surf_near.specs.Near.{NearTables, IsNear}
-use Rattle.surf_firsts.specs.Near.{is_shorter_by, DependOnShorter, with_near, AgreeOff}
-use Rattle.surf_firsts.proofs.NearVertices.{near_vertices_need_no_more}
-use Rattle.surf_choice.specs.declared.candidate.Candidate.{Candidate}
-use Rattle.surf_choice.specs.declared.candidate.Signed.{Signed}
-use Rattle.surf_choice.specs.Candidates.{Chosen, signatures, IsLonger}
-use Rattle.surf_choice.specs.Places.{stands_before, is_sought, limit_of}
-use Rattle.surf_choice.proofs.Longer.{shorter_first}
-use Rattle.surf_search.specs.Found.{SurfaceTables, IsFound, AreFound, AreFoundBy, found_of, is_among}
-use Rattle.surf_search.specs.Passing.{is_marked, AreMarkedNear}
+use Rattle.surf_search.proofs.Common.{◌≡◌, ℕ, suc, ◌<◌, ◌≤◌, ◌+◌, ◌*◌, ◌⊎◌, Bool, true, false, eqb, leb, le-leb, List, [], ◌∷◌, length, get_or, map, filter, take, All, Contains, Option, Some, None, sym, ap, ◌∙◌, subst, arith, inl, inr, set, get_or-set_other, IsTrue, ◌||◌, ◌==◌, replicate, slice_index, AllByRecursion, cases_eq, cases_lt, false≢true, or_cases, or_left, or_right, eq-eqb, eqb-true, nat_tests, get_or-take, get_or_default, get_or_past, get_or-replicate, length-replicate, length-take-le, recursion_from_All, All-contains, Contains-get_or, map-map, IsInOrder, numbers, Spanned, InSpan, AllInSpan, trans_in, in_from_spanned, spanned_from_in, Split, IsSplit, Tree, Mesh, edge_count, IsSurface, IsClosed, ArePositive, cells_of, class_of, AreShortestTrees, loop_walk, loop_length, DependsOn, member_in, all_filtered, Place, is_no_later, comes_sooner, place_at, least_base, Found, walks_found, with_vertex, contains-map, choice_exists, shortest_trees, zero_distance, loop_closed, found_closed, depends_from_spanned, all_mapped, NearTables, IsNear, is_shorter_by, DependOnShorter, with_near, AgreeOff, near_vertices_need_no_more, Candidate, Signed, Chosen, signatures, IsLonger, stands_before, is_sought, limit_of, shorter_first, SurfaceTables, IsFound, AreFound, AreFoundBy, found_of, is_among, is_marked, AreMarkedNear}
 
 -- ---- places
 

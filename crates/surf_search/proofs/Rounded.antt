@@ -1,24 +1,7 @@
 -- Rounds: what is kept of their searches, and in the end has the places of the basis.
-use Rattle.surf_surfaces.proofs.Common.{◌≡◌, ℕ, ◌<◌, zero, suc, max, ◌≤◌, ◌≢◌, ◌+◌, ◌-◌, ◌*◌, ◌/◌, ◌%◌, ◌^◌, ◌⊎◌, get_or-set_same, get_or-set_other, ◌∷◌, Bool, true, false, eqb, leb, le-leb, leb-true, not, List, [], length, get_or, set, All, eq-eqb, edge_count, Found, is_no_later, merge, get_or_default, no_member, Contains, Option, refl, sym, ap, ◌∙◌, subst, arith, inl, inr, IsTrue, ◌&&◌, ◌||◌, cases_Bool, cases_eq, cases_lt, or_cases, or_left, or_right, and_parts, and_from, false≢true, eqb-true, Tree, Mesh, IsSurface, ArePositive, IsLoopCount, MeetsAll, AreShortestTrees, Place, replicate, get_or_past, get_or-replicate, length-replicate}
-use Rattle.surf_surfaces.proofs.bases.ChoiceExists.{choice_exists}
-use Rattle.surf_surfaces.proofs.bases.FewBasesLaws.{least_base_on_way}
-use Rattle.surf_surfaces.proofs.bases.FirstCycleLaws.{shortest_trees}
-use Rattle.surf_firsts.specs.Near.{AgreeOff}
-use Rattle.surf_caps.specs.Barred.{with_near_places}
-use Rattle.surf_caps.specs.Caps.{Sought, AreSoughtFromStart, MeetsUpTo, either, everywhere, with_places}
-use Rattle.surf_caps.proofs.Starts.{either_start, on_set_start}
-use Rattle.surf_choice.specs.declared.candidate.Candidate.{Candidate}
-use Rattle.surf_choice.specs.declared.candidate.Signed.{Signed}
-use Rattle.surf_choice.specs.Candidates.{Chosen, signed_earlier, independent_of}
-use Rattle.surf_choice.specs.Places.{limit_of, is_sought}
+use Rattle.surf_search.proofs.Common.{◌≡◌, ℕ, ◌<◌, zero, suc, max, ◌≤◌, ◌≢◌, ◌+◌, ◌-◌, ◌*◌, ◌/◌, ◌%◌, ◌^◌, ◌⊎◌, get_or-set_same, get_or-set_other, ◌∷◌, Bool, true, false, eqb, leb, le-leb, leb-true, not, List, [], length, get_or, set, All, eq-eqb, edge_count, Found, is_no_later, merge, get_or_default, no_member, Contains, Option, refl, sym, ap, ◌∙◌, subst, arith, inl, inr, IsTrue, ◌&&◌, ◌||◌, cases_Bool, cases_eq, cases_lt, or_cases, or_left, or_right, and_parts, and_from, false≢true, eqb-true, Tree, Mesh, IsSurface, ArePositive, IsLoopCount, MeetsAll, AreShortestTrees, Place, replicate, get_or_past, get_or-replicate, length-replicate, choice_exists, least_base_on_way, shortest_trees, AgreeOff, with_near_places, Sought, AreSoughtFromStart, MeetsUpTo, either, everywhere, with_places, either_start, on_set_start, Candidate, Signed, Chosen, signed_earlier, independent_of, limit_of, is_sought, SurfaceTables, AreFound, is_among, bits_backwards, is_marked, AreMarkedNear, AreNoShorter, spare_of, HavePlacesOfBasis, is_placed, is_within_cap, cap_at, in_caps, in_round, IsCapped, AreKeptTo, AreKeptUpTo, AreCapped, IsKeptAt, IsBarring, KeepsInRound, AreLongerOr, AreNoLess, AreRaisedTo, fall_order, AreSigned, sorted_by_number}
 use Rattle.std.proofs.Math.Nat.{pow-suc}
 use Rattle.std.specs.Int.{reverse_bits_onto}
-use Rattle.surf_search.specs.Found.{SurfaceTables, AreFound, is_among}
-use Rattle.surf_search.specs.Marks.{bits_backwards}
-use Rattle.surf_search.specs.Passing.{is_marked, AreMarkedNear, AreNoShorter, spare_of}
-use Rattle.surf_search.specs.Places.{HavePlacesOfBasis, is_placed}
-use Rattle.surf_search.specs.Rounds.{is_within_cap, cap_at, in_caps, in_round, IsCapped, AreKeptTo, AreKeptUpTo, AreCapped, IsKeptAt, IsBarring, KeepsInRound, AreLongerOr, AreNoLess, AreRaisedTo, fall_order}
-use Rattle.surf_search.specs.Signing.{AreSigned}
 use Rattle.surf_search.proofs.Asked.{caps_meet, cut_meets, raised_kept, capped_places, within_by_none, within_by_size, within_more}
 use Rattle.surf_search.proofs.Capped.{within_start, within_zero, is_beyond, kept_begun, kept_fewer, kept_next, kept_near}
 use Rattle.surf_search.proofs.Capping.{capped_more}
@@ -26,7 +9,6 @@ use Rattle.surf_search.proofs.Looped.{tells_at, tells_long, signed_of}
 use Rattle.surf_search.proofs.PassedOver.{marked_more}
 use Rattle.surf_search.proofs.Placed.{placed_found}
 use Rattle.surf_search.proofs.Searched.{found_short}
-use Rattle.surf_choice.proofs.Limits.{sorted_by_number}
 
 -- ---- a round
 

@@ -1,23 +1,6 @@
 -- What is kept of the loops at the vertices of a list, vertex by vertex.
-use Rattle.std.proofs.Common.{◌≡◌, ◌≢◌, ℕ, zero, suc, ◌<◌, ◌≤◌, ◌+◌, ◌^◌, ◌⊎◌, Bool, true, false, eqb, List, [], ◌∷◌, ◌++◌, length, get_or, map, take, All, Contains, IsPermutation, Option, Some, None, refl, sym, ap, ◌∙◌, subst, arith, inl, inr, eqb-true}
-use Rattle.surf_surfaces.proofs.Common.{IsTrue, nat_le, ◌==◌, AllByRecursion, cases_Bool, cases_eq, leb-true, or_cases, or_left, or_right, nat_tests, take_more, length-map, map-append, greedy, merge, numbers, is_nothing, chosen, Independent, Decides-is_nothing, xor-false, Split, IsSplit, Tree, Mesh, edge_count, IsSurface, IsClosed, ArePositive, parity, IsNull, IsIndependent, IsLoopCount, cells_of, class_of, AreShortestTrees, loop_walk, DependsOn, Contains-permutation, All-permutation, IsPermutation-map, IsPermutation-sym, greedy_law, all_kept as greedy_spans, Sorted, sorted_from_order, order_from_sorted, same_members, sorted_greedy, AllInSpan, InSpan, count, free_from_independent, Place, place_at, Found, walks_found, IsFoundAt, IsFoundLoop, AreEnoughOf, AreEnough, AreFoundAt, IsFoundChoice, comes_no_later, every_place, with_vertex, IsWithin}
-use Rattle.std.proofs.lemmas.List.Elements.{recursion_from_All, All-from_recursion, All-contains, Contains-append_left, Contains-append_cases, Contains-get_or}
-use Rattle.surf_surfaces.proofs.bases.CoveredLaws.{contains-map}
-use Rattle.surf_surfaces.proofs.bases.ChoiceExists.{choice_exists}
-use Rattle.surf_surfaces.proofs.classes.ClassLaws.{null_by_class, independent_by_classes}
-use Rattle.surf_surfaces.proofs.bases.FewBasesLaws.{least_base_on_way}
-use Rattle.surf_surfaces.proofs.bases.FirstFoundLaws.{loop_closed, short_searches_suffice}
-use Rattle.surf_surfaces.proofs.bases.FoundLaws.{greedy_is_found_choice, found_closed, loops_grow_enough}
-use Rattle.surf_surfaces.proofs.classes.LeastLaws.{all_each, all_mapped}
-use Rattle.surf_cotree.specs.Tables.{CotreeTables}
-use Rattle.surf_choice.specs.declared.candidate.Candidate.{Candidate}
-use Rattle.surf_choice.specs.declared.candidate.Signed.{Signed}
-use Rattle.surf_choice.specs.Candidates.{Chosen, signed_earlier, independent_of}
-use Rattle.surf_choice.specs.Places.{place_of, is_sought, last_of, limit_of, stands_before}
-use Rattle.surf_choice.proofs.Limits.{IsShort, merged_sorted, sorted_by_number, before_last, limit_none, limit_last, limit_falls, all_sought}
-use Rattle.surf_choice.proofs.Sifted.{all_merged, all_kept, greedy_mapped}
-use Rattle.surf_search.specs.Signing.{AreSigned}
-use Rattle.surf_search.specs.Found.{IsFound, AreFoundBy, AreFound, found_of, is_among}
+use Rattle.surf_search.proofs.Common.{◌≡◌, ◌≢◌, ℕ, zero, suc, ◌<◌, ◌≤◌, ◌+◌, ◌^◌, ◌⊎◌, Bool, true, false, eqb, List, [], ◌∷◌, ◌++◌, length, get_or, map, take, All, Contains, IsPermutation, Option, Some, None, refl, sym, ap, ◌∙◌, subst, arith, inl, inr, eqb-true, IsTrue, nat_le, ◌==◌, AllByRecursion, cases_Bool, cases_eq, leb-true, or_cases, or_left, or_right, nat_tests, take_more, length-map, map-append, greedy, merge, numbers, is_nothing, chosen, Independent, Decides-is_nothing, xor-false, Split, IsSplit, Tree, Mesh, edge_count, IsSurface, IsClosed, ArePositive, parity, IsNull, IsIndependent, IsLoopCount, cells_of, class_of, AreShortestTrees, loop_walk, DependsOn, Contains-permutation, All-permutation, IsPermutation-map, IsPermutation-sym, greedy_law, Sorted, sorted_from_order, order_from_sorted, same_members, sorted_greedy, AllInSpan, InSpan, count, free_from_independent, Place, place_at, Found, walks_found, IsFoundAt, IsFoundLoop, AreEnoughOf, AreEnough, AreFoundAt, IsFoundChoice, comes_no_later, every_place, with_vertex, IsWithin, recursion_from_All, All-from_recursion, All-contains, Contains-append_left, Contains-append_cases, Contains-get_or, contains-map, choice_exists, null_by_class, independent_by_classes, least_base_on_way, loop_closed, short_searches_suffice, greedy_is_found_choice, found_closed, loops_grow_enough, all_each, all_mapped, CotreeTables, Candidate, Signed, Chosen, signed_earlier, independent_of, place_of, is_sought, last_of, limit_of, stands_before, IsShort, merged_sorted, sorted_by_number, before_last, limit_none, limit_last, limit_falls, all_sought, all_merged, all_kept, greedy_mapped, AreSigned, IsFound, AreFoundBy, AreFound, found_of, is_among}
+use Rattle.surf_surfaces.proofs.Common.{all_kept as greedy_spans}
 use Rattle.surf_search.proofs.Signed.{class_small}
 
 -- ---- the vertices of a list

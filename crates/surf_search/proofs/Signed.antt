@@ -1,7 +1,5 @@
 -- How many signatures there are, and how great they are.
-use Rattle.surf_surfaces.proofs.Common.{◌≡◌, ℕ, ◌<◌, ◌^◌, List, length, ap, ◌∙◌, subst, length-map-range_with_len, Split, chain_signature, Mesh, edge_count, parity, cells_of, class_of, edge_signature, small}
-use Rattle.surf_cotree.specs.Tables.{CotreeTables}
-use Rattle.surf_search.specs.Signing.{AreSigned}
+use Rattle.surf_search.proofs.Common.{◌≡◌, ℕ, ◌<◌, ◌^◌, List, length, ap, ◌∙◌, subst, length-map-range_with_len, Split, chain_signature, Mesh, edge_count, parity, cells_of, class_of, edge_signature, small, CotreeTables, AreSigned}
 
 -- the class of a walk is as small as there are left edges
 pub class_small : (mesh : Mesh) (d : Split) (walk : List ℕ) (width : ℕ) → length d.left ≡ width → class_of mesh d walk < 2 ^ width

@@ -1,16 +1,6 @@
 -- Ways up to the base of a search, and the loops of edges by them.
-use Rattle.surf_surfaces.proofs.Common.{◌≡◌, ◌≢◌, ◌⊎◌, inl, inr, ℕ, ◌<◌, ◌≤◌, ◌+◌, ◌/◌, ◌∷◌, ◌++◌, [], true, List, replicate, length-replicate, get_or-replicate, length, get_or, set, reverse, slice_index, refl, sym, ap, ◌∙◌, subst, arith, cases_eq, cases_lt, leb-true, le-leb, get_or_default, get_or-set_same, get_or-set_other, length-set, primal, Tree, IsTree, Mesh, ends, IsSurface, ArePositive, cells_of, IsShortestTree, way_up, way_down}
+use Rattle.surf_search.proofs.Common.{◌≡◌, ◌≢◌, ◌⊎◌, inl, inr, ℕ, ◌<◌, ◌≤◌, ◌+◌, ◌/◌, ◌∷◌, ◌++◌, [], true, List, replicate, length-replicate, get_or-replicate, length, get_or, set, reverse, slice_index, refl, sym, ap, ◌∙◌, subst, arith, cases_eq, cases_lt, leb-true, le-leb, get_or_default, get_or-set_same, get_or-set_other, length-set, primal, Tree, IsTree, Mesh, ends, IsSurface, ArePositive, cells_of, IsShortestTree, way_up, way_down, choice_exists, shortest_trees, ends_are_near, shortest_is_tree, way_reversed, ends_in, NearTables, IsNear, is_near, Candidate, Signed, AddsWay, AreWalksOf, AreWritten, AreWrittenTo, HasReachedEnds, IsLoopWalk, IsMeasured, IsWalkOf}
 use Rattle.surf_graphs.proofs.Ways.{ways_go_by_parents}
-use Rattle.surf_surfaces.proofs.bases.ChoiceExists.{choice_exists}
-use Rattle.surf_surfaces.proofs.bases.FirstCycleLaws.{shortest_trees}
-use Rattle.surf_surfaces.proofs.bases.FirstFoundLaws.{ends_are_near}
-use Rattle.surf_surfaces.proofs.walks.ShortestTreeLaws.{shortest_is_tree}
-use Rattle.surf_graphs.proofs.Turned.{way_reversed}
-use Rattle.surf_surfaces.proofs.meshes.CellLaws.{ends_in}
-use Rattle.surf_near.specs.Near.{NearTables, IsNear, is_near}
-use Rattle.surf_choice.specs.declared.candidate.Candidate.{Candidate}
-use Rattle.surf_choice.specs.declared.candidate.Signed.{Signed}
-use Rattle.surf_search.specs.Walks.{AddsWay, AreWalksOf, AreWritten, AreWrittenTo, HasReachedEnds, IsLoopWalk, IsMeasured, IsWalkOf}
 use Rattle.surf_search.proofs.Numbered.{near_parent}
 use Rattle.surf_search.proofs.Told.{half_below}
 

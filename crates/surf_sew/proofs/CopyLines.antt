@@ -1,11 +1,7 @@
 -- Copy lines that are read one after the other.
-use Rattle.surf_surfaces.proofs.Common.{◌≡◌, ◌+◌, ℕ, true, false, List, [], ◌∷◌, ◌++◌, length, Some, None, Result, Ok, Err, refl, sym, ap, append_assoc, not, codes, append-nil, bytes_eq}
-use Rattle.surf_text.specs.Text.{words_of, whole}
-use Rattle.surf_text.specs.Walks.{has_some}
+use Rattle.surf_sew.proofs.Common.{◌≡◌, ◌+◌, ℕ, true, false, List, [], ◌∷◌, ◌++◌, length, Some, None, Result, Ok, Err, refl, sym, ap, append_assoc, not, codes, append-nil, bytes_eq, words_of, whole, has_some, CopyForm, ◌>>=◌, word_lines_from, is_copy, copies_among, origin_at, origin_of}
 use Rattle.surf_sew.specs.declared.copies.CopyFault.{CopyFault}
-use Rattle.surf_sew.specs.declared.copies.CopyFault.TheVariants.{CopyForm}
-use Rattle.surf_base.specs.Gives.{◌>>=◌}
-use Rattle.surf_sew.specs.Copies.{word_lines_from, is_copy, copies_among, origin_at, origin_of, origins_from}
+use Rattle.surf_sew.specs.Copies.{origins_from}
 
 -- origins that were read, in front of those to come
 abbrev pub with_origins : List ℕ → Result (List ℕ) CopyFault → Result (List ℕ) CopyFault

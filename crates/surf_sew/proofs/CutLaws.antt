@@ -1,25 +1,9 @@
 -- What is sewn of a mesh that was cut is that mesh.
-use Rattle.std.proofs.Common.{◌≡◌, ◌≢◌, ◌<◌, ◌≤◌, ◌+◌, ◌^◌, ℕ, Bool, false, List, [], ◌∷◌, ◌++◌, length, get_or, map, Option, None, Ok, Err, refl, sym, ◌∙◌, ap, subst, append_assoc, length-append, arith, inl, inr, cond, eq-eqb}
-use Rattle.surf_surfaces.proofs.Common.{◌==◌, slice_index, AllPairs, get_or-map-range_with_len, length-map-range_with_len, sum_by-cons, Mesh, IsFace, edge_count, side_count, bytes_eq-Decides}
-use Rattle.std.specs.List.{All, list_any, sum_by}
-use Rattle.std.proofs.lemmas.Bool.{cases_lt, ne_eqb, not_from_true}
-use Rattle.std.proofs.lemmas.List.{ext_get_or, length-map, get_or-map, get_or_past, get_or_at, get_or_append_left}
-use Rattle.std.proofs.lemmas.List.Elements.{All-tail, All-head, All-map}
-use Rattle.std.proofs.lemmas.List.Folds.{list_any_at, list_any_none}
+use Rattle.surf_sew.proofs.Common.{◌≡◌, ◌≢◌, ◌<◌, ◌≤◌, ◌+◌, ◌^◌, ℕ, Bool, false, List, [], ◌∷◌, ◌++◌, length, get_or, map, Option, None, Ok, Err, refl, sym, ◌∙◌, ap, subst, append_assoc, length-append, arith, inl, inr, cond, eq-eqb, ◌==◌, slice_index, AllPairs, get_or-map-range_with_len, length-map-range_with_len, sum_by-cons, Mesh, IsFace, edge_count, side_count, bytes_eq-Decides, All, list_any, sum_by, cases_lt, ne_eqb, not_from_true, ext_get_or, length-map, get_or-map, get_or_past, get_or_append_left, All-tail, All-head, All-map, list_any_at, list_any_none, IsVertexLine, IsOffParts, OffParts, off_without_limits, lines_at, mesh_text, other_default, AllFaces, all_faces, short_faces, opened_again, CopyCount, SewFault, ◌>>=◌, counted, copies_in, first_copy, first_like, first_copies, different, HaveCopies, line_fault, sewn_face, sewn_faces, unless, sewn_mesh, sewn_of, sewn_lines, sewn_text, WasCut, opened, opened_parts, text_cut, OpenedAreReread, CopiesAreReread, OpenedAreSewn, LinesAreSewn, SewnAreReread}
+use Rattle.std.proofs.lemmas.List.{get_or_at}
 use Rattle.surf_disc.proofs.TableLaws.{edges_within}
-use Rattle.surf_off.specs.Clean.{IsVertexLine, IsOffParts}
-use Rattle.surf_off.specs.Off.{OffParts, first_repeat, off_without_limits}
-use Rattle.surf_off.specs.Written.{lines_at, mesh_text}
-use Rattle.surf_off.proofs.FaceRows.{other_default}
-use Rattle.surf_off.proofs.Reread.{AllFaces}
-use Rattle.surf_off.proofs.RereadMesh.{all_faces, short_faces, opened_again}
-use Rattle.surf_sew.specs.declared.copies.CopyFault.TheVariants.{CopyCount}
-use Rattle.surf_sew.specs.declared.fault.SewFault.{SewFault}
-use Rattle.surf_base.specs.Gives.{◌>>=◌}
-use Rattle.surf_sew.specs.Copies.{counted, copies_in}
-use Rattle.surf_sew.specs.Sewing.{first_copy, first_like, first_copies, different, HaveCopies, line_fault, sewn_face, sewn_faces, repeat_from, unless, sewn_mesh, sewn_of}
-use Rattle.surf_sew.specs.Texts.{sewn_lines, sewn_text}
-use Rattle.surf_sew.specs.Laws.{WasCut, opened, opened_parts, text_cut, OpenedAreReread, CopiesAreReread, OpenedAreSewn, LinesAreSewn, SewnAreReread}
+use Rattle.surf_off.specs.Off.{first_repeat}
+use Rattle.surf_sew.specs.Sewing.{repeat_from}
 use Rattle.surf_sew.proofs.Gaps.{among_copy, copy_origin, different_few, no_more, no_gap}
 use Rattle.surf_sew.proofs.Firsts.{like_few}
 use Rattle.surf_sew.proofs.Faults.{no_line, sewn_sides, mesh_is, repeat_or}

@@ -1,12 +1,5 @@
 -- The copy lines of a text, line by line: which lines are none, and what one says.
-use Rattle.std.proofs.Common.{◌≡◌, ◌<◌, ◌+◌, ◌^◌, ℕ, false, List, [], ◌∷◌, ◌++◌, Some, refl, ◌∙◌, ap, append_assoc, arith, codes, eq-eqb}
-use Rattle.surf_surfaces.proofs.Common.{decimal, list_any, slice_split, lt-ltb}
-use Rattle.surf_text.specs.Text.{is_line_end, is_comment_sign}
-use Rattle.surf_off.specs.Written.{copy_text}
-use Rattle.surf_off.proofs.CleanLines.{none_head, none_tail}
-use Rattle.surf_off.proofs.Decimals.{whole_decimal, word_decimal}
-use Rattle.surf_off.proofs.NumberLines.{none_append}
-use Rattle.surf_sew.specs.Copies.{WordLine, word_lines_from, copies_among, origin_of}
+use Rattle.surf_sew.proofs.Common.{◌≡◌, ◌<◌, ◌+◌, ◌^◌, ℕ, false, List, [], ◌∷◌, ◌++◌, Some, refl, ◌∙◌, ap, append_assoc, arith, codes, eq-eqb, decimal, list_any, slice_split, lt-ltb, is_line_end, is_comment_sign, copy_text, none_head, none_tail, whole_decimal, word_decimal, none_append, WordLine, word_lines_from, copies_among, origin_of}
 use Rattle.surf_sew.proofs.Skips.{no_copy}
 use Rattle.surf_sew.proofs.PlainLines.{line_words}
 

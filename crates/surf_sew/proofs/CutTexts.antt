@@ -1,12 +1,8 @@
 -- The copy lines of the text of an opened mesh.
-use Rattle.surf_surfaces.proofs.Common.{◌≡◌, ◌<◌, ◌+◌, ◌^◌, ℕ, zero, suc, List, [], ◌∷◌, ◌++◌, length, map, Ok, refl, sym, ◌∙◌, ap, append_assoc, arith, codes, decimal, slice_index, false, list_any, zip, range_with_len, length-map-range_with_len, get_or-map-range_with_len, ext_get_or}
-use Rattle.surf_text.specs.Text.{is_line_end, is_comment_sign}
+use Rattle.surf_sew.proofs.Common.{◌≡◌, ◌<◌, ◌+◌, ◌^◌, ℕ, zero, suc, List, [], ◌∷◌, ◌++◌, length, map, Ok, refl, sym, ◌∙◌, ap, append_assoc, arith, codes, decimal, slice_index, false, list_any, zip, range_with_len, length-map-range_with_len, get_or-map-range_with_len, ext_get_or, is_line_end, is_comment_sign, head_text, lines_text, face_text, faces_text, mesh_text, copies_text, word_decimal, number_line, clean_numbers, none_append}
 use Rattle.surf_off.specs.declared.header.Header.{Header}
 use Rattle.surf_off.specs.declared.header.Header.TheVariants.{Off, Coff, Noff, Cnoff, Stoff, Stcoff, Stnoff, Stcnoff}
 use Rattle.surf_off.specs.Keywords.{keyword}
-use Rattle.surf_off.specs.Written.{head_text, lines_text, face_text, faces_text, mesh_text, copies_text}
-use Rattle.surf_off.proofs.Decimals.{word_decimal}
-use Rattle.surf_off.proofs.NumberLines.{number_line, clean_numbers, none_append}
 use Rattle.surf_off.proofs.Reread.{AllLines, AllFaces}
 use Rattle.surf_sew.specs.Copies.{origins_from}
 use Rattle.surf_sew.proofs.CutLines.{copies_from, quiet_line, copy_first, origin_again}

@@ -1,13 +1,7 @@
 -- The first fault of copies and their origins.
-use Rattle.surf_surfaces.proofs.Common.{◌≡◌, ◌≢◌, ◌<◌, ◌≤◌, ◌+◌, ℕ, Bool, true, false, not, List, [], ◌∷◌, length, get_or, drop, Option, Some, None, refl, sym, ◌∙◌, ap, arith, slice_index, AllPairs, option_map, sum_by-cons, Mesh, IsFace, length-map, get_or-map, at_drop_more, at_drop_all}
-use Rattle.std.specs.List.{All, sum_by}
+use Rattle.surf_sew.proofs.Common.{◌≡◌, ◌≢◌, ◌<◌, ◌≤◌, ◌+◌, ℕ, Bool, true, false, not, List, [], ◌∷◌, length, get_or, drop, Option, Some, None, refl, sym, ◌∙◌, ap, arith, slice_index, AllPairs, option_map, sum_by-cons, Mesh, IsFace, length-map, get_or-map, at_drop_more, at_drop_all, All, sum_by, All-map, first_repeat, other_default, SewFault, Line, FaceRepeat, same_line, first_like, line_fault, sewn_face, sewn_faces}
 use Rattle.std.specs.Option.{option_or}
-use Rattle.std.proofs.lemmas.List.Elements.{All-map}
-use Rattle.surf_off.specs.Off.{first_repeat}
-use Rattle.surf_off.proofs.FaceRows.{other_default}
-use Rattle.surf_sew.specs.declared.fault.SewFault.{SewFault}
-use Rattle.surf_sew.specs.declared.fault.SewFault.TheVariants.{Line, FaceRepeat}
-use Rattle.surf_sew.specs.Sewing.{same_line, first_like, line_fault, sewn_face, sewn_faces, repeat_from}
+use Rattle.surf_sew.specs.Sewing.{repeat_from}
 use Rattle.surf_sew.proofs.Gaps.{find_range, find_no_range}
 
 -- whether the vertex line of a copy differs from that of the least copy with its origin

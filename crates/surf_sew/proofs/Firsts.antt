@@ -1,6 +1,5 @@
 -- Tables of least copies.
-use Rattle.surf_surfaces.proofs.Common.{◌≡◌, ◌<◌, ◌+◌, ℕ, List, length, get_or, refl, sym, ◌∙◌, arith, get_or-map-range_with_len, length-map-range_with_len, eq-eqb, ext_get_or, list_any_at}
-use Rattle.surf_sew.specs.Sewing.{first_copy, first_like, first_copies}
+use Rattle.surf_sew.proofs.Common.{◌≡◌, ◌<◌, ◌+◌, ℕ, List, length, get_or, refl, sym, ◌∙◌, arith, get_or-map-range_with_len, length-map-range_with_len, eq-eqb, ext_get_or, list_any_at, first_copy, first_like, first_copies}
 use Rattle.surf_sew.proofs.Gaps.{among_copy}
 
 pub table_is : (vs table : List ℕ) (from n : ℕ) → length table ≡ n → ((k : ℕ) → k < n → get_or table k 0 ≡ first_copy vs (from + k)) → table ≡ first_copies vs from n

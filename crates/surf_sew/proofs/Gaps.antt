@@ -1,11 +1,6 @@
 -- How many different origins there are, and the first gap among them.
-use Rattle.surf_surfaces.proofs.Common.{◌≡◌, ◌≢◌, ◌<◌, ◌≤◌, ◌+◌, ◌-◌, ℕ, zero, suc, Bool, true, false, not, eqb, List, [], ◌∷◌, length, get_or, Some, None, refl, sym, ◌∙◌, ap, arith, inl, inr, ◌==◌, ◌&&◌, nat_lt, option_map, get_or-map-range_with_len, length-map-range_with_len, count_below, All-tail, count_below-same, count_below-none, count_below-all, count_below-without}
-use Rattle.std.specs.List.{All, find, list_all, position_or_len, range_with_len}
-use Rattle.std.proofs.lemmas.Bool.{cases_Bool, cases_lt, cases_eq, and_cases, both_ways, ltb-true, ltb-false, eqb-true, eqb-false, eq-eqb, ne_eqb, or_left, or_right, or_from, or_parts, not_from_true, not_from_false}
-use Rattle.std.proofs.lemmas.List.Folds.{list_any_at, list_any_none}
-use Rattle.std.proofs.lemmas.List.Sums.{prefix_len-le-length, passes_at_first, fails_before_first}
-use Rattle.surf_sew.specs.declared.fault.SewFault.TheVariants.{Gap}
-use Rattle.surf_sew.specs.Sewing.{is_among, different, first_copy, first_copies, HaveCopies, gap_fault}
+use Rattle.surf_sew.proofs.Common.{◌≡◌, ◌≢◌, ◌<◌, ◌≤◌, ◌+◌, ◌-◌, ℕ, zero, suc, Bool, true, false, not, eqb, List, [], ◌∷◌, length, get_or, Some, None, refl, sym, ◌∙◌, ap, arith, inl, inr, ◌==◌, ◌&&◌, nat_lt, option_map, get_or-map-range_with_len, length-map-range_with_len, count_below, All-tail, count_below-same, count_below-none, count_below-all, count_below-without, All, list_all, position_or_len, range_with_len, cases_Bool, cases_lt, cases_eq, and_cases, both_ways, ltb-true, ltb-false, eqb-true, eqb-false, eq-eqb, ne_eqb, or_left, or_right, or_from, or_parts, not_from_true, not_from_false, list_any_at, list_any_none, prefix_len-le-length, passes_at_first, fails_before_first, Gap, is_among, different, first_copy, first_copies, HaveCopies, gap_fault}
+use Rattle.std.specs.List.{find}
 
 -- the first of the numbers from a on that passes
 pub find_range : (p : ℕ → Bool) (a n m : ℕ) → ((k : ℕ) → k < m → p (a + k) ≡ false) → m < n → p (a + m) ≡ true → find p (range_with_len a n) ≡ Some (a + m)

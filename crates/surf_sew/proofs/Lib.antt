@@ -1,3 +1,4 @@
+pub mod Common
 pub mod CopyLines
 pub mod Skips
 pub mod PlainLines

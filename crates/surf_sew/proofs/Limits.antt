@@ -1,14 +1,10 @@
 -- A text within the limits is read the same with them and without.
-use Rattle.surf_surfaces.proofs.Common.{◌≡◌, ◌≤◌, ◌+◌, ℕ, zero, suc, Bool, true, false, List, [], ◌∷◌, length, take, drop, Option, Some, None, Result, Ok, Err, refl, sym, ◌∙◌, ap, arith, inl, inr, nat_le, nat_lt, if◌then◌else◌, ◌&&◌, sum_by, cases_Bool, le-ltb, leb-true, and_parts, length-take-le, sum_by-cons, Mesh}
-use Rattle.std.specs.Prelude.{ok_or}
-use Rattle.surf_text.specs.Text.{TextLine, tokens_of, whole, lines_of, rest_after}
+use Rattle.surf_sew.proofs.Common.{◌≡◌, ◌≤◌, ◌+◌, ℕ, zero, suc, Bool, true, false, List, [], ◌∷◌, length, take, drop, Option, Some, None, Result, Ok, Err, refl, sym, ◌∙◌, ap, arith, inl, inr, nat_le, nat_lt, if◌then◌else◌, ◌&&◌, sum_by, cases_Bool, le-ltb, leb-true, and_parts, length-take-le, sum_by-cons, Mesh, ok_or, TextLine, tokens_of, whole, lines_of, rest_after, ◌>>=◌, Head, head_of, number_at, vertices_at, few_sides, corner_read, first_repeat, distinct, Face, FaceLines, OffParts, ended, LimitsAreKept}
 use Rattle.surf_base.specs.declared.limits.LimitKind.TheVariants.{Vertices, Faces}
 use Rattle.surf_off.specs.declared.fault.OffFault.{OffFault}
 use Rattle.surf_off.specs.declared.fault.OffFault.TheVariants.{Counts, FaceSize, Limit}
-use Rattle.surf_base.specs.Gives.{◌>>=◌}
-use Rattle.surf_off.specs.Off.{Head, head_of, number_at, counts_of, vertices_at, size_of, few_sides, corner_read, corners_at, first_repeat, distinct, Face, face_of, FaceLines, faces_at, OffParts, ended, off_in}
+use Rattle.surf_off.specs.Off.{counts_of, size_of, corners_at, face_of, faces_at, off_in}
 use Rattle.surf_off.proofs.FaceLines.{with_face}
-use Rattle.surf_sew.specs.Laws.{LimitsAreKept}
 
 -- What was bound was read.
 bound : {A B : Type 0} → (r : Result A OffFault) (f : A → Result B OffFault) (y : B) → r >>= f ≡ Ok y → (x : A) × (r ≡ Ok x) × (f x ≡ Ok y)

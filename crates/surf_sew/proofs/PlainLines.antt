@@ -1,9 +1,5 @@
 -- Copy lines that have one space between their words.
-use Rattle.surf_surfaces.proofs.Common.{◌≡◌, ◌≤◌, ◌^◌, ℕ, true, false, List, [], ◌∷◌, ◌++◌, Option, Some, None, refl, sym, ◌∙◌, ap, arith, inl, inr, codes, ◌&&◌, nat_lt, nat_le, list_all, list_any, cases_Bool, and_parts, leb-true, ne_eqb, append-nil, is_ascii_digit}
-use Rattle.std.specs.Option.{IfSome}
-use Rattle.surf_text.specs.Text.{is_blank, is_nonempty, words_of, whole, value_of}
-use Rattle.surf_off.proofs.NumberLines.{words_word}
-use Rattle.surf_sew.specs.Copies.{is_copy, origin_at, origin_of}
+use Rattle.surf_sew.proofs.Common.{◌≡◌, ◌≤◌, ◌^◌, ℕ, true, false, List, [], ◌∷◌, ◌++◌, Option, Some, None, refl, sym, ◌∙◌, ap, arith, inl, inr, codes, ◌&&◌, nat_lt, nat_le, list_all, list_any, cases_Bool, and_parts, leb-true, ne_eqb, append-nil, is_ascii_digit, IfSome, is_blank, is_nonempty, words_of, whole, value_of, words_word, is_copy, origin_at, origin_of}
 
 -- the words behind the first two
 prefix_words : (rest : List ℕ) → words_of (codes "# copy " ++ rest) ≡ codes "#" ∷ codes "copy" ∷ words_of rest

@@ -1,13 +1,6 @@
 -- The text of a sewn mesh, and what it is read as.
-use Rattle.surf_surfaces.proofs.Common.{◌≡◌, ◌<◌, ◌^◌, ℕ, List, [], ◌∷◌, ◌++◌, length, Ok, refl, sym, ◌∙◌, ap, subst, arith, length-map, append-nil, length-range_with_len, Mesh, IsMesh, edge_count, All-head, All-tail}
-use Rattle.std.specs.List.{All, zip, range_with_len}
-use Rattle.surf_off.specs.Clean.{IsVertexLine, IsOffParts}
-use Rattle.surf_off.specs.Off.{OffParts}
-use Rattle.surf_off.specs.Written.{head_text, lines_text, faces_text, lines_at}
-use Rattle.surf_off.proofs.Reread.{AllLines, AllFaces}
-use Rattle.surf_off.proofs.RereadMesh.{mesh_again, all_faces}
-use Rattle.surf_sew.specs.Sewing.{first_copy, first_copies, HaveCopies}
-use Rattle.surf_sew.specs.Texts.{sewn_lines, sewn_text, RereadsSewn}
+use Rattle.surf_sew.proofs.Common.{◌≡◌, ◌<◌, ◌^◌, ℕ, List, [], ◌∷◌, ◌++◌, length, Ok, refl, sym, ◌∙◌, ap, subst, arith, length-map, append-nil, length-range_with_len, Mesh, IsMesh, edge_count, All-head, All-tail, All, zip, range_with_len, IsVertexLine, IsOffParts, OffParts, head_text, lines_text, faces_text, lines_at, AllFaces, mesh_again, all_faces, first_copy, first_copies, HaveCopies, sewn_lines, sewn_text, RereadsSewn}
+use Rattle.surf_off.proofs.Reread.{AllLines}
 use Rattle.surf_sew.proofs.Windows.{copies_few}
 
 pub lines_count : (lines : List (List ℕ)) (origins : List ℕ) (n : ℕ) → length (sewn_lines lines origins n) ≡ n

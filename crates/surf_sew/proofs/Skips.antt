@@ -1,12 +1,5 @@
 -- Lines that are passed over: none of them has a comment sign.
-use Rattle.std.proofs.Common.{◌≡◌, ◌<◌, ◌≤◌, ◌+◌, ◌-◌, ℕ, zero, suc, Bool, true, false, List, [], ◌∷◌, ◌++◌, length, get_or, take, drop, count_by, refl, sym, ◌∙◌, ap, arith, inl, inr, codes, length-append}
-use Rattle.std.specs.List.{list_any, slice_split, onto_first, filter, position_or_len}
-use Rattle.surf_surfaces.proofs.Common.{bytes_eq, drop_more, take-append-drop, length-slice_split, bytes_eq-Decides}
-use Rattle.std.proofs.lemmas.Bool.{cases_Bool, and_left, both_ways}
-use Rattle.std.proofs.lemmas.List.Sums.{count_by_more_yes}
-use Rattle.surf_text.specs.Text.{is_line_end, is_comment_sign, is_blank, is_nonempty, words_of}
-use Rattle.surf_off.proofs.CleanLines.{none_head, none_tail}
-use Rattle.surf_sew.specs.Copies.{word_lines_from, is_copy, copies_among}
+use Rattle.surf_sew.proofs.Common.{◌≡◌, ◌<◌, ◌≤◌, ◌+◌, ◌-◌, ℕ, zero, suc, Bool, true, false, List, [], ◌∷◌, ◌++◌, length, get_or, take, drop, count_by, refl, sym, ◌∙◌, ap, arith, inl, inr, codes, length-append, list_any, slice_split, onto_first, filter, position_or_len, bytes_eq, drop_more, take-append-drop, length-slice_split, bytes_eq-Decides, cases_Bool, and_left, both_ways, count_by_more_yes, is_line_end, is_comment_sign, is_blank, is_nonempty, words_of, none_head, none_tail, word_lines_from, is_copy, copies_among}
 
 -- No word has a byte that passes.
 unfoldable pub Free : (ℕ → Bool) → List (List ℕ) → Type 0

@@ -1,10 +1,5 @@
 -- The vertex lines of least copies, some vertices at a time.
-use Rattle.surf_surfaces.proofs.Common.{◌≡◌, ◌<◌, ◌+◌, ℕ, zero, suc, List, [], ◌∷◌, ◌++◌, length, get_or, map, refl, sym, ◌∙◌, ap, append_assoc, codes, arith, inl, inr, ◌≤◌, ◌==◌, cases_lt, eq-eqb, ne_eqb, map-append, get_or-map-range_with_len, length-map-range_with_len, position_or_len_is}
-use Rattle.std.specs.List.{All, range_with_len}
-use Rattle.surf_text.proofs.Writing.{text_append}
-use Rattle.surf_off.specs.Written.{lines_text, lines_at}
-use Rattle.surf_sew.specs.Sewing.{first_copy, first_copies, HaveCopies}
-use Rattle.surf_sew.specs.Texts.{sewn_lines}
+use Rattle.surf_sew.proofs.Common.{◌≡◌, ◌<◌, ◌+◌, ℕ, zero, suc, List, [], ◌∷◌, ◌++◌, length, get_or, map, refl, sym, ◌∙◌, ap, append_assoc, codes, arith, inl, inr, ◌≤◌, ◌==◌, cases_lt, eq-eqb, ne_eqb, map-append, get_or-map-range_with_len, length-map-range_with_len, position_or_len_is, All, range_with_len, text_append, lines_text, lines_at, first_copy, first_copies, HaveCopies, sewn_lines}
 use Rattle.surf_sew.proofs.Gaps.{among_copy}
 
 pub copies_few : (vs : List ℕ) (from n : ℕ) → HaveCopies vs (from + n) → All (λ c. c < length vs) (first_copies vs from n)

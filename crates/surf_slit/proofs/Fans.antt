@@ -1,21 +1,6 @@
 -- The faces around a vertex by their places, and the chains of faces there.
-use Rattle.std.proofs.Common.{◌≡◌, ℕ, ◌+◌, ◌<◌, ◌⊎◌, ◌↔◌, inl, inr, sym, refl, subst, ap, ◌∙◌, eqb, List, length, get_or, Bool, true, false, arith, eqb-true}
-use Rattle.surf_surfaces.proofs.Common.{cases_eq, or_cases, Joined, here, over, Mesh, pair, after, face_at, edge_count, ends, touches, HasEdge, IsSurface, owners, first_side, IsFaceOf}
-use Rattle.surf_surfaces.proofs.meshes.FaceLaws.{pair_comm, touches_first}
-use Rattle.surf_surfaces.proofs.meshes.JoinedLaws.{joined_trans}
-use Rattle.surf_surfaces.proofs.meshes.SideLaws.{after-below}
-use Rattle.surf_opening.specs.Opening.{ShareUncutAt}
-use Rattle.surf_opening.specs.Side.{Side}
-use Rattle.surf_opening.proofs.gluing.Cotrees.{ends_pair}
-use Rattle.surf_opening.proofs.sides.MeshSides.{is_darts, no_third_face}
-use Rattle.surf_opening.proofs.sides.Polygons.{after_cases}
-use Rattle.surf_soup.specs.Ring.{BeginsAt}
-use Rattle.surf_soup.proofs.HalfLaws.{face_of_side, spans}
-use Rattle.surf_soup.proofs.CornerSides.{one_corner}
-use Rattle.surf_soup.proofs.SideNumbers.{one_face}
-use Rattle.surf_soup.proofs.VertexLaws.{corner_at_place}
+use Rattle.surf_slit.proofs.Common.{◌≡◌, ℕ, ◌+◌, ◌<◌, ◌⊎◌, ◌↔◌, inl, inr, sym, refl, subst, ap, ◌∙◌, eqb, List, length, get_or, Bool, true, false, arith, eqb-true, cases_eq, or_cases, Joined, here, over, Mesh, pair, after, face_at, edge_count, ends, touches, HasEdge, IsSurface, owners, first_side, IsFaceOf, pair_comm, touches_first, joined_trans, after-below, ShareUncutAt, Side, ends_pair, is_darts, no_third_face, after_cases, BeginsAt, face_of_side, spans, one_corner, one_face, corner_at_place, IsUncut, AgreeAt}
 use Rattle.surf_slit.proofs.Runs.{Linked}
-use Rattle.surf_slit.specs.Labels.{IsUncut, AgreeAt}
 
 -- the sides that begin at a vertex, one a face there, and the edges there, each between the faces of its place and of the next
 pub record IsFan (mesh : Mesh) (v n : ℕ) (ring edge : ℕ → ℕ) : Type 0 where

@@ -1,9 +1,7 @@
 -- Runs of places around a vertex between cuts.
-use Rattle.std.proofs.Common.{◌≡◌, ◌≢◌, ℕ, zero, suc, ◌+◌, ◌-◌, ◌<◌, ◌≤◌, ◌↔◌, max, inl, inr, sym, refl, subst, ap, ◌∙◌, cond, eqb, leb as nat_leb, Bool, true, false, arith, ne_eqb}
-use Rattle.surf_surfaces.proofs.Common.{cases_eq, cases_lt, cases_Bool, eq-eqb, both_ways, lt-ltb, le-ltb, le-leb, lt-leb, cases_order, count_below, Joined, here, over, after, ◌⊎◌}
+use Rattle.surf_slit.proofs.Common.{◌≡◌, ◌≢◌, ℕ, zero, suc, ◌+◌, ◌-◌, ◌<◌, ◌≤◌, ◌↔◌, max, inl, inr, sym, refl, subst, ap, ◌∙◌, cond, eqb, Bool, true, false, arith, ne_eqb, cases_eq, cases_lt, cases_Bool, eq-eqb, both_ways, lt-ltb, le-ltb, le-leb, lt-leb, cases_order, count_below, Joined, here, over, after, ◌⊎◌, joined_trans, joined_sym, run_of}
+use Rattle.std.proofs.Common.{leb as nat_leb}
 use Rattle.surf_z2.proofs.Counting.{passes, fails, no_fall_to, passed_onto}
-use Rattle.surf_surfaces.proofs.meshes.JoinedLaws.{joined_trans, joined_sym}
-use Rattle.surf_slit.specs.Link.{run_of}
 
 -- Around n places: one is next to the other, and no cut is between them. The test says whether a cut is behind a place.
 abbrev pub Linked : ℕ → (ℕ → Bool) → ℕ → ℕ → Type 0

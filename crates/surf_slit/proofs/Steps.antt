@@ -1,16 +1,5 @@
 -- What labelling a vertex, and cutting one more edge, does to the labels.
-use Rattle.surf_surfaces.proofs.Common.{◌≡◌, ◌≢◌, ℕ, ◌+◌, ◌-◌, ◌<◌, ◌≤◌, ◌↔◌, max, sym, refl, subst, ap, ◌∙◌, List, length, get_or, Bool, true, false, arith, count_below, Joined, here, over, Mesh, pair, edge_count, ends, touches, IsSurface, side_count, owners, IsFaceOf}
-use Rattle.std.proofs.Math.ListN.{set}
-use Rattle.std.proofs.lemmas.List.{get_or-set_same, get_or-set_other}
-use Rattle.surf_surfaces.proofs.meshes.FaceLaws.{touches_first}
-use Rattle.surf_surfaces.proofs.meshes.JoinedLaws.{joined_lift, joined_trans}
-use Rattle.surf_opening.specs.Opening.{ShareUncutAt}
-use Rattle.surf_opening.proofs.counts.Counting.{pigeons}
-use Rattle.surf_soup.specs.Ring.{BeginsAt}
-use Rattle.surf_soup.proofs.HalfLaws.{face_of_side}
-use Rattle.surf_soup.proofs.VertexLaws.{corners_below, corners_len}
-use Rattle.surf_slit.specs.Labels.{corner_at, IsUncut, AgreeAt, AreNumbers, AreLabels}
-use Rattle.surf_slit.specs.Link.{run_of}
+use Rattle.surf_slit.proofs.Common.{◌≡◌, ◌≢◌, ℕ, ◌+◌, ◌-◌, ◌<◌, ◌≤◌, ◌↔◌, max, sym, refl, subst, ap, ◌∙◌, List, length, get_or, Bool, true, false, arith, count_below, Joined, here, over, Mesh, pair, edge_count, ends, touches, IsSurface, side_count, owners, IsFaceOf, set, get_or-set_same, get_or-set_other, touches_first, joined_lift, joined_trans, ShareUncutAt, pigeons, BeginsAt, face_of_side, corners_below, corners_len, corner_at, IsUncut, AgreeAt, AreNumbers, AreLabels, run_of}
 use Rattle.surf_slit.proofs.Runs.{Linked, run_below, run_used, runs_along, runs_join, closed_agree, split_agree, chain, chain_round}
 use Rattle.surf_slit.proofs.Fans.{IsFan, agree_placed, placed_agree}
 

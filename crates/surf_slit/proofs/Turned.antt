@@ -1,7 +1,5 @@
 -- Places counted from behind one of them, so that it comes last.
-use Rattle.surf_surfaces.proofs.Common.{◌≡◌, ℕ, ◌+◌, ◌-◌, ◌<◌, ◌≤◌, ◌⊎◌, inl, inr, refl, subst, ap, ◌∙◌, arith, cases_lt, lt-ltb, le-ltb, Mesh, after, IsFaceOf}
-use Rattle.surf_opening.proofs.sides.Polygons.{after_cases}
-use Rattle.surf_slit.specs.Place.{place}
+use Rattle.surf_slit.proofs.Common.{◌≡◌, ℕ, ◌+◌, ◌-◌, ◌<◌, ◌≤◌, ◌⊎◌, inl, inr, refl, subst, ap, ◌∙◌, arith, cases_lt, lt-ltb, le-ltb, Mesh, after, IsFaceOf, after_cases, place}
 use Rattle.surf_slit.proofs.Fans.{IsFan}
 
 place_low : (n m d : ℕ) → m + 1 + d < n → place n m d ≡ m + 1 + d

@@ -1,17 +1,5 @@
 -- Labels at one vertex after another.
-use Rattle.surf_surfaces.proofs.Common.{◌≡◌, ◌≢◌, ℕ, ◌+◌, ◌-◌, ◌<◌, ◌≤◌, ◌⊎◌, zero, suc, max, inl, inr, sym, refl, subst, ap, ◌∙◌, List, length, get_or, replicate, eqb, Bool, true, false, arith, cases_eq, cases_lt, cases_order, or_left, or_right, eq-eqb, or_cases, eqb-true, count_below, Joined, here, over, Mesh, pair, edge_count, ends, touches, ShareAt, IsSurface, side_count, slice_index}
-use Rattle.std.proofs.Math.ListN.{set}
-use Rattle.std.proofs.lemmas.List.{get_or-set_same, get_or-set_other, get_or-replicate}
-use Rattle.surf_surfaces.proofs.meshes.CellLaws.{ends_below}
-use Rattle.surf_surfaces.proofs.meshes.JoinedLaws.{joined_lift}
-use Rattle.surf_opening.specs.Opening.{ShareUncutAt}
-use Rattle.surf_opening.proofs.counts.Counting.{pigeons}
-use Rattle.surf_opening.proofs.sides.Edges.{edge_of}
-use Rattle.surf_soup.specs.Ring.{BeginsAt, IsRing, IsEdgeAt, AreEdgesAt, GoBetween}
-use Rattle.surf_soup.proofs.CornerSides.{begins_corner, corner_begins}
-use Rattle.surf_slit.specs.Labels.{corner_at, IsUncut, AgreeAt, AreNumbers, AreLabels, IsLabelledAt}
-use Rattle.surf_slit.specs.Link.{run_of}
-use Rattle.surf_slit.specs.Place.{place, cut_behind, NoneCut, IsNextCut}
+use Rattle.surf_slit.proofs.Common.{◌≡◌, ◌≢◌, ℕ, ◌+◌, ◌-◌, ◌<◌, ◌≤◌, ◌⊎◌, zero, suc, max, inl, inr, sym, refl, subst, ap, ◌∙◌, List, length, get_or, replicate, eqb, Bool, true, false, arith, cases_eq, cases_lt, cases_order, or_left, or_right, eq-eqb, or_cases, eqb-true, count_below, Joined, here, over, Mesh, pair, edge_count, ends, touches, ShareAt, IsSurface, side_count, slice_index, set, get_or-set_same, get_or-set_other, get_or-replicate, ends_below, joined_lift, ShareUncutAt, pigeons, edge_of, BeginsAt, IsRing, IsEdgeAt, AreEdgesAt, GoBetween, begins_corner, corner_begins, corner_at, IsUncut, AgreeAt, AreNumbers, AreLabels, IsLabelledAt, run_of, place, cut_behind, NoneCut, IsNextCut}
 use Rattle.surf_slit.proofs.Fans.{IsFan}
 use Rattle.surf_slit.proofs.Steps.{labels_few, corner_below, all_labels, each_vertex, agree_kept, agree_elsewhere, runs_agree, runs_between, runs_used, agree_closed, agree_split, old_same}
 use Rattle.surf_slit.proofs.Turned.{turned, place_last}

@@ -1,13 +1,5 @@
 -- The least pair that keeps the trees and the list from dividing the edges.
-use Rattle.surf_surfaces.proofs.Common.{◌≡◌, ℕ, ◌<◌, ◌≤◌, Bool, true, false, List, get_or, refl, sym, ap, ◌∙◌, arith, inl, inr, Option, Some, None, cases_Bool, cases_eq, cases_lt, true≢false, false_from_ne_true, lt-ltb, Mesh, pair, pair_of, pair_eq, pair_lt, edges, among, edge_count, ends, IsSurface}
-use Rattle.std.specs.Option.{MatchOption}
-use Rattle.surf_surfaces.proofs.meshes.PairLaws.{pair_eq-same, pair_eq-true, pair_lt-trans, pair_lt-total, pair_lt-irreflexive}
-use Rattle.surf_surfaces.proofs.meshes.EdgeLaws.{contains_from_among, edges-rise, rising_at, list_any_from}
-use Rattle.surf_surfaces.proofs.meshes.CellLaws.{ends_below}
-use Rattle.surf_validity.specs.Rows.{TreeRows, DualRows}
-use Rattle.surf_validity.specs.Valid.{IsDivided}
-use Rattle.surf_treecheck.specs.First.{HoldsBelow, FailsFirst}
-use Rattle.surf_treecheck.specs.Split.{AreMarks, AreOne, IsInOne, IsStray, IsLeastStray, IsUndivided, IsBadPair, IsLeastBadPair, lesser_of}
+use Rattle.surf_treecheck.proofs.Common.{◌≡◌, ℕ, ◌<◌, ◌≤◌, Bool, true, false, List, get_or, refl, sym, ap, ◌∙◌, arith, inl, inr, Option, Some, None, cases_Bool, cases_eq, cases_lt, true≢false, false_from_ne_true, lt-ltb, Mesh, pair, pair_of, pair_eq, pair_lt, edges, among, edge_count, ends, IsSurface, MatchOption, pair_eq-same, pair_eq-true, pair_lt-trans, pair_lt-total, pair_lt-irreflexive, contains_from_among, edges-rise, rising_at, list_any_from, ends_below, TreeRows, DualRows, IsDivided, HoldsBelow, FailsFirst, AreMarks, AreOne, IsInOne, IsStray, IsLeastStray, IsUndivided, IsBadPair, IsLeastBadPair, lesser_of}
 
 -- a later edge is not less
 later_edge : (mesh : Mesh) (e h : ℕ) → e ≤ h → h < edge_count mesh → pair_lt (ends mesh h) (ends mesh e) ≡ false

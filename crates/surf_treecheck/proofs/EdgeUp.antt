@@ -1,9 +1,5 @@
 -- The edge between two vertices by its number.
-use Rattle.surf_surfaces.proofs.Common.{◌≡◌, ℕ, ◌<◌, true, sym, ap, ◌∙◌, Contains, Option, Some, None, true≢false, primal, joined_below, Mesh, pair, pair_eq, edges, among, edge_count, ends, IsSurface, edge_number, place_of, cells_of}
-use Rattle.surf_treecheck.specs.Between.{IsEdgeBetween, IsEdgeUp}
-use Rattle.surf_surfaces.proofs.meshes.EdgeLaws.{place_of-ends, among-contains, contains_from_among, list_any_from}
-use Rattle.surf_surfaces.proofs.meshes.PairLaws.{pair_eq-same}
-use Rattle.surf_surfaces.proofs.meshes.CellLaws.{surfaces_are_cells}
+use Rattle.surf_treecheck.proofs.Common.{◌≡◌, ℕ, ◌<◌, true, sym, ap, ◌∙◌, Contains, Option, Some, None, true≢false, primal, joined_below, Mesh, pair, pair_eq, edges, among, edge_count, ends, IsSurface, edge_number, place_of, cells_of, IsEdgeBetween, IsEdgeUp, place_of-ends, among-contains, contains_from_among, list_any_from, pair_eq-same, surfaces_are_cells}
 use Rattle.surf_surfaces.proofs.walks.GraphWalkLaws.{joined}
 
 pub number_is : (mesh : Mesh) (p v e : ℕ) → e < edge_count mesh → ends mesh e ≡ pair p v → edge_number mesh (p, v) ≡ e

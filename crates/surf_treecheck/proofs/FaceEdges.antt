@@ -1,6 +1,5 @@
 -- The edge of a face between two vertices.
-use Rattle.surf_surfaces.proofs.Common.{◌≡◌, ℕ, ◌<◌, true, false, ◌||◌, eqb, [], sym, ap, ◌∙◌, true≢false, Mesh, pair, edges, among, face_count, edge_count, face_at, ends, has_side, faces_of, IsSurface}
-use Rattle.surf_surfaces.proofs.meshes.EdgeLaws.{among-edges, list_any_from}
+use Rattle.surf_treecheck.proofs.Common.{◌≡◌, ℕ, ◌<◌, true, false, ◌||◌, eqb, [], sym, ap, ◌∙◌, true≢false, Mesh, pair, edges, among, face_count, edge_count, face_at, ends, has_side, faces_of, IsSurface, among-edges, list_any_from}
 use Rattle.surf_surfaces.proofs.meshes.SurfaceLaws.{two_faces_of}
 
 -- what is no edge is no side of a face

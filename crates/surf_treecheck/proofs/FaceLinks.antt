@@ -1,12 +1,6 @@
 -- The links of faces, and the ways by them.
-use Rattle.surf_surfaces.proofs.Common.{unwrap_or, ◌≡◌, ◌≢◌, ℕ, ◌<◌, ◌+◌, [], ◌∷◌, ◌++◌, length, subst, arith, Option, Some, None, cond, eqb, List, get_or, sym, ap, ◌∙◌, inl, inr, length-append, get_or_append_left, cases_eq, Mesh, face_count, edge_count, faces_of, IsSurface, edge_number}
+use Rattle.surf_treecheck.proofs.Common.{unwrap_or, ◌≡◌, ◌≢◌, ℕ, ◌<◌, ◌+◌, [], ◌∷◌, ◌++◌, length, subst, arith, Option, Some, None, cond, eqb, List, get_or, sym, ap, ◌∙◌, inl, inr, length-append, get_or_append_left, cases_eq, Mesh, face_count, edge_count, faces_of, IsSurface, edge_number, DualRows, depth_at, side_at, IsDualRow, row_falls, HoldsBelow, HasDual, AreLinks, IsLinkOver, HasLink, IsStepUp}
 use Rattle.std.proofs.Math.Seq.{get_or-append_seam}
-use Rattle.surf_validity.specs.Rows.{DualRows}
-use Rattle.surf_validity.specs.Valid.{depth_at, side_at, IsDualRow}
-use Rattle.surf_validity.proofs.DualLaws.{row_falls}
-use Rattle.surf_treecheck.specs.First.{HoldsBelow}
-use Rattle.surf_treecheck.specs.Rows.{HasDual}
-use Rattle.surf_treecheck.specs.Paths.{AreLinks, IsLinkOver, HasLink, IsStepUp}
 
 pub link_is : (mesh : Mesh) (f u v e face : ℕ) → edge_number mesh (u, v) ≡ e →
     face ≡ cond (eqb f (faces_of mesh e).0) (faces_of mesh e).1 (faces_of mesh e).0 →

@@ -1,11 +1,6 @@
 -- Faults that name the first condition that fails, each with its least witness, are one.
-use Rattle.surf_surfaces.proofs.Common.{◌≡◌, ◌≢◌, ℕ, zero, suc, ◌<◌, inl, inr, refl, sym, subst, arith, cases_lt, cases_eq}
-use Rattle.surf_treecheck.specs.First.{FailsFirst}
-use Rattle.surf_treecheck.specs.Shapes.{FirstPart}
-use Rattle.surf_treecheck.specs.declared.fault.CertPart.{CertPart}
-use Rattle.surf_treecheck.specs.declared.fault.CertPart.TheVariants.{Vertices, Faces, Loops, Base}
-use Rattle.surf_treecheck.specs.declared.fault.CertFault.{CertFault}
-use Rattle.surf_treecheck.specs.declared.fault.CertFault.TheVariants.{Shape, Parent, Distance, Slack, Dual, Split, Heavier, NotClosed, Dependent, Uncovered, Memory}
+use Rattle.surf_treecheck.proofs.Common.{◌≡◌, ◌≢◌, ℕ, zero, suc, ◌<◌, inl, inr, refl, sym, subst, arith, cases_lt, cases_eq, FailsFirst, FirstPart, CertPart, Vertices, Faces, Loops, Base, CertFault, Shape, Parent, Distance, Slack, Dual, Heavier, NotClosed, Dependent, Uncovered, Memory}
+use Rattle.surf_treecheck.specs.declared.fault.CertFault.TheVariants.{Split}
 
 -- ---- witnesses
 

@@ -1,8 +1,5 @@
 -- Flags by edge number.
-use Rattle.surf_surfaces.proofs.Common.{◌≡◌, ℕ, suc, ◌+◌, ◌<◌, Bool, true, false, ◌||◌, eqb, List, length, get_or, set, sym, ap, ◌∙◌, arith, inl, inr, get_or-set_same, get_or-set_other, cases_eq, eq-eqb, ne_eqb, any_below, Mesh, pair, pair_eq, edges, among, edge_count, ends, place_of}
-use Rattle.surf_surfaces.proofs.meshes.PairLaws.{pair_eq-same}
-use Rattle.surf_surfaces.proofs.meshes.EdgeLaws.{place_of-ends, ends-eq, list_any_from}
-use Rattle.surf_treecheck.specs.Split.{AreFlags}
+use Rattle.surf_treecheck.proofs.Common.{◌≡◌, ℕ, suc, ◌+◌, ◌<◌, Bool, true, false, ◌||◌, eqb, List, length, get_or, set, sym, ap, ◌∙◌, arith, inl, inr, get_or-set_same, get_or-set_other, cases_eq, eq-eqb, ne_eqb, any_below, Mesh, pair, pair_eq, edges, among, edge_count, ends, place_of, pair_eq-same, place_of-ends, ends-eq, list_any_from, AreFlags}
 
 -- the flag of the edge between two vertices is on
 pub flagged : (mesh : Mesh) (u v edge : ℕ) (flags : List Bool) → length flags ≡ edge_count mesh → edge < edge_count mesh →

@@ -1,3 +1,4 @@
+pub mod Common
 pub mod EdgeUp
 pub mod FaceEdges
 pub mod Flags

@@ -1,8 +1,5 @@
 -- Trees of all bases without short cuts.
-use Rattle.surf_surfaces.proofs.Common.{ℕ, List, Mesh, edge_count}
-use Rattle.surf_validity.specs.Rows.{BasisCert}
-use Rattle.surf_treecheck.specs.First.{HoldsBelow}
-use Rattle.surf_treecheck.specs.TreeFaults.{IsNoShortCutAt}
+use Rattle.surf_treecheck.proofs.Common.{ℕ, List, Mesh, edge_count, BasisCert, HoldsBelow, IsNoShortCutAt}
 
 -- no edge is a short cut in the tree at a base
 abbrev pub HasNoShortCut : Mesh → List ℕ → BasisCert → ℕ → Type 0

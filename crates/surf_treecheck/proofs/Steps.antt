@@ -1,9 +1,8 @@
 -- The steps of a list by their places, and a list one longer.
-use Rattle.surf_surfaces.proofs.Common.{◌≡◌, ℕ, zero, suc, ◌<◌, ◌+◌, List, [], ◌∷◌, length, get_or, map, sum, take, All, Contains, bit_xor, refl, sym, ap, ◌∙◌, subst, arith, map-append, take_all, numbers, sum_of, Mesh, pair, pair_of, edges, steps, steps_from, take-suc, xor_zero_r, first, last, last_from}
-use Rattle.std.proofs.lemmas.List.Sums.{sum-map, sum_by_more}
+use Rattle.surf_treecheck.proofs.Common.{◌≡◌, ℕ, zero, suc, ◌<◌, ◌+◌, List, [], ◌∷◌, length, get_or, map, sum, take, All, Contains, bit_xor, refl, sym, ap, ◌∙◌, subst, arith, map-append, take_all, numbers, sum_of, Mesh, pair, pair_of, edges, steps, steps_from, take-suc, xor_zero_r, first, last, last_from, sum_by_more, HoldsBelow}
+use Rattle.std.proofs.lemmas.List.Sums.{sum-map}
 use Rattle.surf_z2.proofs.Basics.{span_law}
 use Rattle.surf_surfaces.proofs.walks.CycleLaws.{length-steps}
-use Rattle.surf_treecheck.specs.First.{HoldsBelow}
 
 from_at : (u : ℕ) (rest : List ℕ) (k : ℕ) (d : ℕ × ℕ) → k < length rest →
     get_or (steps_from u rest) k d ≡ (get_or (u ∷ rest) k 0, get_or rest k 0)

@@ -1,8 +1,5 @@
 -- The least of the listed pairs that are no edges.
-use Rattle.surf_surfaces.proofs.Common.{◌≡◌, ℕ, suc, ◌+◌, ◌<◌, true, false, ◌||◌, List, [], ◌∷◌, ◌++◌, length, get_or, take, refl, sym, ap, ◌∙◌, subst, arith, inl, inr, Option, Some, None, ◌⊎◌, get_or_default, cases_Bool, true≢false, false≢true, or_cases, or_left, or_right, false_from_ne_true, Mesh, pair, pair_of, pair_eq, pair_lt, edges, among, take-suc}
-use Rattle.surf_surfaces.proofs.meshes.PairLaws.{pair_eq-true, pair_eq-same, pair_lt-trans, pair_lt-irreflexive}
-use Rattle.surf_surfaces.proofs.meshes.EdgeLaws.{list_any-append}
-use Rattle.surf_treecheck.specs.Split.{is_named, IsStray, IsLeastStray, lesser_of, least_with}
+use Rattle.surf_treecheck.proofs.Common.{◌≡◌, ℕ, suc, ◌+◌, ◌<◌, true, false, ◌||◌, List, [], ◌∷◌, ◌++◌, length, get_or, take, refl, sym, ap, ◌∙◌, subst, arith, inl, inr, Option, Some, None, ◌⊎◌, get_or_default, cases_Bool, true≢false, false≢true, or_cases, or_left, or_right, false_from_ne_true, Mesh, pair, pair_of, pair_eq, pair_lt, edges, among, take-suc, pair_eq-true, pair_eq-same, pair_lt-trans, pair_lt-irreflexive, list_any-append, is_named, IsStray, IsLeastStray, lesser_of, least_with}
 
 module _ (mesh : Mesh) (xs : List (ℕ × ℕ)) (y : ℕ × ℕ) where
   named_more : (q : ℕ × ℕ) → is_named (xs ++ y ∷ []) q ≡ (is_named xs q || (pair_eq q (pair_of y) || false))

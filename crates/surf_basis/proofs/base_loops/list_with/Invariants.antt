@@ -1,6 +1,4 @@
-use Rattle.std.proofs.Common.{◌≡◌, filter, take}
-use Rattle.surf_choice.specs.declared.candidate.Signed.{Signed}
-use Rattle.surf_search.specs.Places.{has_length}
+use Rattle.surf_search.proofs.Common.{◌≡◌, filter, take, Signed, has_length}
 use Rattle.surf_basis.proofs.base_loops.list_with.Given as goal
 
 abbrev pub invariant-loop-signed : goal.invariant-loop-signed

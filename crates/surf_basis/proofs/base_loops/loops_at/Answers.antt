@@ -1,10 +1,5 @@
-use Rattle.surf_surfaces.proofs.Common.{◌≡◌, ◌<◌, ◌^◌, List, map, All, Some, sym, ap, ◌∙◌, subst, on_ok_weaker}
-use Rattle.surf_choice.specs.declared.candidate.Candidate.{Candidate}
-use Rattle.surf_choice.specs.declared.candidate.Signed.{Signed}
-use Rattle.surf_choice.specs.Candidates.{Chosen}
-use Rattle.surf_basis.specs.Based.{based_at}
-use Rattle.surf_search.specs.Found.{IsNext}
-use Rattle.surf_search.specs.Signing.{AreSigned}
+use Rattle.surf_search.proofs.Common.{◌≡◌, ◌<◌, ◌^◌, List, map, All, Some, sym, ap, ◌∙◌, subst, on_ok_weaker, Candidate, Signed, Chosen, IsNext, AreSigned}
+use Rattle.surf_basis.proofs.Common.{based_at}
 use Rattle.surf_basis.proofs.Based.{based_small, offered_at}
 use Rattle.surf_search.proofs.Searched.{found_small}
 use Rattle.surf_basis.proofs.base_loops.loops_at.Goals as goal

@@ -1,13 +1,5 @@
-use Rattle.surf_surfaces.proofs.Common.{◌≡◌, ◌<◌, ◌≤◌, ◌^◌, ℕ, List, length, All, sym, ap, ◌∙◌, subst, arith, IfOk-weaker, edge_count, IsSurface, ArePositive, AreBases}
-use Rattle.surf_lengths.proofs.Positive.{lengths_positive}
-use Rattle.surf_choice.specs.Candidates.{Chosen}
-use Rattle.surf_search.specs.Walks.{IsMeasured}
-use Rattle.surf_basis.specs.Candidates.{AreCyclesOf}
-use Rattle.surf_search.specs.Found.{SurfaceTables}
-use Rattle.surf_search.specs.Signing.{AreSigned}
-use Rattle.surf_basis.specs.Kept.{AreKeptOver}
-use Rattle.surf_basis.specs.Kept.{HasBases}
-use Rattle.surf_basis.specs.Cycles.{as_loops, IsTheBasis}
+use Rattle.surf_search.proofs.Common.{◌≡◌, ◌<◌, ◌≤◌, ◌^◌, ℕ, List, length, All, sym, ap, ◌∙◌, subst, arith, IfOk-weaker, edge_count, IsSurface, ArePositive, AreBases, lengths_positive, Chosen, IsMeasured, SurfaceTables, AreSigned}
+use Rattle.surf_basis.proofs.Common.{AreCyclesOf, AreKeptOver, HasBases, as_loops, IsTheBasis}
 use Rattle.surf_basis.proofs.Whole.{all_measured, the_basis}
 use Rattle.surf_basis.proofs.basis.basis_from.Goals as goal
 

@@ -1,5 +1,4 @@
-use Rattle.std.proofs.Common.{◌<◌, All, sym, ◌∙◌, subst}
-use Rattle.surf_search.specs.Places.{HavePlacesOfBasis}
+use Rattle.surf_search.proofs.Common.{◌<◌, All, sym, ◌∙◌, subst, HavePlacesOfBasis}
 use Rattle.surf_search.proofs.Signed.{signs_long}
 use Rattle.surf_basis.proofs.basis.basis_over.Goals as goal
 

@@ -1,11 +1,5 @@
-use Rattle.surf_surfaces.proofs.Common.{◌≡◌, ◌<◌, ◌≤◌, ◌^◌, ℕ, List, All, length, slice_index, refl, sym, ap, ◌∙◌, subst, arith, get_or_read, merge, edge_count, IsSurface, ArePositive}
-use Rattle.surf_choice.specs.declared.candidate.Signed.{Signed}
-use Rattle.surf_choice.specs.Candidates.{Chosen, signed_earlier, independent_of}
-use Rattle.surf_basis.specs.Based.{AreOffered}
-use Rattle.surf_search.specs.Found.{SurfaceTables}
-use Rattle.surf_basis.specs.Kept.{AreKeptOver}
-use Rattle.surf_search.specs.Places.{lengths_at}
-use Rattle.surf_search.specs.Signing.{AreSigned}
+use Rattle.surf_search.proofs.Common.{◌≡◌, ◌<◌, ◌≤◌, ◌^◌, ℕ, List, All, length, slice_index, refl, sym, ap, ◌∙◌, subst, arith, get_or_read, merge, edge_count, IsSurface, ArePositive, Signed, Chosen, signed_earlier, independent_of, SurfaceTables, lengths_at, AreSigned}
+use Rattle.surf_basis.proofs.Common.{AreOffered, AreKeptOver}
 use Rattle.surf_basis.proofs.Based.{offered_small}
 use Rattle.surf_basis.proofs.Kept.{none_kept, kept_more}
 use Rattle.surf_basis.proofs.basis.choose.Goals as goal

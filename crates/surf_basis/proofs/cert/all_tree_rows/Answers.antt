@@ -1,8 +1,6 @@
-use Rattle.std.proofs.Common.{◌≡◌, ◌<◌, subst, arith}
-use Rattle.surf_lengths.proofs.Positive.{lengths_positive}
-use Rattle.surf_loops.proofs.Rows.{grown_rooted}
+use Rattle.surf_search.proofs.Common.{◌≡◌, ◌<◌, subst, arith, lengths_positive}
+use Rattle.surf_basis.proofs.Common.{grown_rooted, AreTreeRowsBelow}
 use Rattle.surf_tree.specs.Grown.{IsGrown}
-use Rattle.surf_basis.specs.Certs.{AreTreeRowsBelow}
 use Rattle.surf_basis.proofs.Certified.{rows_more}
 use Rattle.surf_basis.proofs.cert.all_tree_rows.Goals as goal
 

@@ -1,5 +1,4 @@
-use Rattle.surf_tree.specs.Tables.{AreTreeTables}
-use Rattle.surf_basis.specs.Certs.{AreTreeRowsBelow}
+use Rattle.surf_basis.proofs.Common.{AreTreeTables, AreTreeRowsBelow}
 use Rattle.surf_basis.proofs.cert.all_tree_rows.Given as goal
 
 abbrev pub invariant-loop-base : goal.invariant-loop-base

@@ -1,7 +1,5 @@
-use Rattle.std.proofs.Common.{arith}
-use Rattle.surf_lengths.proofs.Positive.{lengths_positive}
-use Rattle.surf_loops.proofs.Rows.{numbers_fit}
-use Rattle.surf_basis.specs.Cycles.{as_loops}
+use Rattle.surf_search.proofs.Common.{arith, lengths_positive}
+use Rattle.surf_basis.proofs.Common.{numbers_fit, as_loops}
 use Rattle.surf_basis.proofs.Certified.{the_cert, valid_cert, fitting_cert}
 use Rattle.surf_basis.proofs.cert.basis_cert.Goals as goal
 

@@ -1,8 +1,5 @@
-use Rattle.surf_surfaces.proofs.Common.{◌<◌, ◌∙◌, map, sym, ap, subst, ends}
-use Rattle.surf_surfaces.proofs.classes.ClassLaws.{some_vertex}
-use Rattle.surf_validity.specs.Chosen.{dual_rows_of}
-use Rattle.surf_cotree.specs.Tables.{CotreeTables, cotree_of}
-use Rattle.surf_loops.specs.Loops.{IsGreedy}
+use Rattle.surf_search.proofs.Common.{◌<◌, ◌∙◌, map, sym, ap, subst, ends, some_vertex, CotreeTables, cotree_of}
+use Rattle.surf_basis.proofs.Common.{dual_rows_of, IsGreedy}
 use Rattle.surf_basis.proofs.cert.face_rows.Goals as goal
 
 pub greedy-requires-clause-base : goal.greedy-requires-clause-base

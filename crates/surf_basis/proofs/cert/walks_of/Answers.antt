@@ -1,8 +1,5 @@
-use Rattle.surf_surfaces.proofs.Common.{◌∙◌, sym, rules, map-map, Loop}
-use Rattle.std.proofs.lemmas.Iterator.{items_from_collect, YieldsList-from_map}
-use Rattle.std.proofs.lemmas.Iterator.Adapters.{YieldsList-from_vec}
-use Rattle.surf_basis.specs.Cycles.{as_loop}
-use Rattle.surf_basis.specs.declared.cycle.Cycle.{Cycle}
+use Rattle.surf_search.proofs.Common.{◌∙◌, sym, rules, map-map, Loop, items_from_collect, YieldsList-from_map, YieldsList-from_vec}
+use Rattle.surf_basis.proofs.Common.{as_loop, Cycle}
 use Rattle.surf_basis.proofs.cert.walks_of.Goals as goal
 
 pub returns : goal.returns

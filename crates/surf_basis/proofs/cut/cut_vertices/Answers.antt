@@ -1,7 +1,5 @@
-use Rattle.surf_surfaces.proofs.Common.{◌≡◌, ℕ, Bool, List, false, replicate, ◌∙◌, ap, subst, arith, IsTrue}
-use Rattle.surf_tree.specs.Tables.{TreeTables, tree_of}
-use Rattle.surf_basis.specs.Cut.{HasEnds, IsLeastSet}
-use Rattle.surf_search.specs.Passing.{is_marked}
+use Rattle.surf_search.proofs.Common.{◌≡◌, ℕ, Bool, List, false, replicate, ◌∙◌, ap, subst, arith, IsTrue, is_marked}
+use Rattle.surf_basis.proofs.Common.{TreeTables, tree_of, HasEnds, IsLeastSet}
 use Rattle.surf_search.proofs.Marked.{written_back}
 use Rattle.surf_basis.proofs.Ended.{marks_listed, listed_marked}
 use Rattle.surf_basis.proofs.OnCut.{cut_listed}

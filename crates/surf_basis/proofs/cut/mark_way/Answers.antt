@@ -1,6 +1,5 @@
-use Rattle.surf_surfaces.proofs.Common.{◌≡◌, ◌<◌, ℕ, length, refl, sym, ap, ◌∙◌, subst, arith, true, false, slice_set, slice_index_or, length-set}
-use Rattle.surf_tree.specs.Tables.{tree_of}
-use Rattle.surf_search.specs.Passing.{is_marked}
+use Rattle.surf_search.proofs.Common.{◌≡◌, ◌<◌, ℕ, length, refl, sym, ap, ◌∙◌, subst, arith, true, false, slice_set, slice_index_or, length-set, is_marked}
+use Rattle.surf_basis.proofs.Common.{tree_of}
 use Rattle.surf_basis.proofs.OnCut.{IsClimbing, GoesOn, steps_left, climb_begun, climb_more, climb_done, climb_falls, goes_up, goes_no_more}
 use Rattle.surf_basis.proofs.cut.mark_way.Goals as goal
 

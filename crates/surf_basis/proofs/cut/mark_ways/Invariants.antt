@@ -1,6 +1,5 @@
-use Rattle.std.proofs.Common.{◌≡◌, length}
-use Rattle.surf_tree.specs.Tables.{tree_of}
-use Rattle.surf_search.specs.Passing.{is_marked}
+use Rattle.surf_search.proofs.Common.{◌≡◌, length, is_marked}
+use Rattle.surf_basis.proofs.Common.{tree_of}
 use Rattle.surf_basis.proofs.OnCut.{AreMarkedSoFar}
 use Rattle.surf_basis.proofs.cut.mark_ways.Given as goal
 

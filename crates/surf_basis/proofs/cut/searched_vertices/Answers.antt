@@ -1,9 +1,6 @@
-use Rattle.surf_surfaces.proofs.Common.{◌≡◌, ℕ, List, Option, Some, None, length, true, inl, sym, ap, ◌∙◌, subst, false≢true, IfOk-weaker, MeetsAll, is_some}
+use Rattle.surf_search.proofs.Common.{◌≡◌, ℕ, List, Option, Some, None, length, true, inl, sym, ap, ◌∙◌, subst, false≢true, IfOk-weaker, MeetsAll, is_some, CotreeTables, is_among}
+use Rattle.surf_basis.proofs.Common.{AreCutVertices, AreToSearch, AreSignedEnds}
 use Rattle.surf_tree.specs.Queues.{AreEven, IsEvenness}
-use Rattle.surf_cotree.specs.Tables.{CotreeTables}
-use Rattle.surf_basis.specs.Cut.{AreCutVertices, AreToSearch}
-use Rattle.surf_search.specs.Found.{is_among}
-use Rattle.surf_basis.specs.Ends.{AreSignedEnds}
 use Rattle.surf_search.proofs.Signed.{signs_long}
 use Rattle.surf_basis.proofs.Meeting.{ends_meet, cut_meets}
 use Rattle.surf_basis.proofs.cut.searched_vertices.Goals as goal

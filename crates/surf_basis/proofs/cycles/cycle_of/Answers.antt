@@ -1,9 +1,5 @@
-use Rattle.surf_surfaces.proofs.Common.{refl, sym, ◌∙◌, Trees, AreChosenAt}
-use Rattle.surf_surfaces.proofs.bases.ChoiceExists.{heaviest_exists}
-use Rattle.surf_surfaces.proofs.walks.ShortestTreeLaws.{shortest_is_tree}
-use Rattle.surf_lengths.proofs.Positive.{lengths_positive}
-use Rattle.surf_tree.specs.Tables.{tree_of}
-use Rattle.surf_loops.proofs.Rows.{grown_rooted}
+use Rattle.surf_search.proofs.Common.{refl, sym, ◌∙◌, Trees, AreChosenAt, heaviest_exists, shortest_is_tree, lengths_positive}
+use Rattle.surf_basis.proofs.Common.{tree_of, grown_rooted}
 use Rattle.surf_basis.proofs.Looped.{loop_is_one}
 use Rattle.surf_basis.proofs.cycles.cycle_of.Goals as goal
 

@@ -1,5 +1,4 @@
-use Rattle.surf_surfaces.proofs.Common.{ℕ, ◌≡◌, ◌≢◌, ◌<◌, true, false, slice_index, sym, ap, ◌∙◌, subst, arith, inl, inr, ◌⊎◌, slice_index_or, cases_lt, nat_tests, ends, edge_count}
-use Rattle.surf_search.specs.Marks.{by_degree}
+use Rattle.surf_search.proofs.Common.{ℕ, ◌≡◌, ◌≢◌, ◌<◌, true, false, slice_index, sym, ap, ◌∙◌, subst, arith, inl, inr, ◌⊎◌, slice_index_or, cases_lt, nat_tests, ends, edge_count, by_degree}
 use Rattle.surf_basis.proofs.Ended.{end_stays, either_marked}
 use Rattle.surf_search.proofs.Marked.{ends_inside, either_below}
 use Rattle.surf_search.proofs.Counted.{as_read_or_turned}

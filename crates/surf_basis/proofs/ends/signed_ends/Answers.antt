@@ -1,10 +1,7 @@
-use Rattle.surf_surfaces.proofs.Common.{◌≡◌, ℕ, Bool, List, false, replicate, sym, ap, ◌∙◌, subst, inl, inr, arith, IsTrue, slice_index, get_or-replicate, edge_count, AreDegreesTo, degree_in}
-use Rattle.surf_search.specs.Marks.{is_signed}
-use Rattle.surf_basis.specs.Ends.{IsBusierEnd}
-use Rattle.surf_search.specs.Passing.{is_marked}
+use Rattle.surf_search.proofs.Common.{◌≡◌, ℕ, Bool, List, false, replicate, sym, ap, ◌∙◌, subst, inl, inr, arith, IsTrue, slice_index, get_or-replicate, edge_count, AreDegreesTo, degree_in, is_signed, is_marked}
+use Rattle.surf_basis.proofs.Common.{IsBusierEnd}
 use Rattle.surf_search.proofs.Marked.{written_back}
-use Rattle.surf_basis.proofs.Ended.{each_listed, ends_listed}
-use Rattle.surf_basis.proofs.Ended.{busier_by_table}
+use Rattle.surf_basis.proofs.Ended.{each_listed, ends_listed, busier_by_table}
 use Rattle.surf_search.proofs.PassedOver.{none_marked}
 use Rattle.surf_basis.proofs.ends.signed_ends.Goals as goal
 

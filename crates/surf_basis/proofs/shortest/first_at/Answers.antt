@@ -1,6 +1,5 @@
-use Rattle.surf_surfaces.proofs.Common.{ap, ◌∙◌, option_map}
-use Rattle.surf_lengths.proofs.Positive.{lengths_positive}
-use Rattle.surf_basis.specs.Candidates.{loop_in}
+use Rattle.surf_search.proofs.Common.{ap, ◌∙◌, option_map, lengths_positive}
+use Rattle.surf_basis.proofs.Common.{loop_in}
 use Rattle.surf_basis.proofs.First.{first_heads}
 use Rattle.surf_basis.proofs.shortest.first_at.Goals as goal
 

@@ -1,7 +1,5 @@
-use Rattle.std.proofs.Common.{sym, ap, ◌∙◌, subst}
-use Rattle.surf_lengths.proofs.Positive.{lengths_positive}
-use Rattle.surf_basis.specs.Cycles.{first_of}
-use Rattle.surf_basis.specs.Candidates.{IsFirstPlace}
+use Rattle.surf_search.proofs.Common.{sym, ap, ◌∙◌, subst, lengths_positive}
+use Rattle.surf_basis.proofs.Common.{first_of, IsFirstPlace}
 use Rattle.surf_basis.proofs.Placed.{place_inside}
 use Rattle.surf_basis.proofs.shortest.first_candidate.Goals as goal
 

@@ -1,7 +1,5 @@
-use Rattle.std.proofs.lemmas.Result.{IfOk-weaker}
-use Rattle.surf_lengths.proofs.Positive.{lengths_positive}
-use Rattle.surf_search.specs.Found.{IsFirstAmong}
-use Rattle.surf_basis.specs.Candidates.{IsFirstPlace}
+use Rattle.surf_search.proofs.Common.{IfOk-weaker, lengths_positive, IsFirstAmong}
+use Rattle.surf_basis.proofs.Common.{IsFirstPlace}
 use Rattle.surf_basis.proofs.Placed.{first_placed}
 use Rattle.surf_basis.proofs.shortest.first_place.Goals as goal
 

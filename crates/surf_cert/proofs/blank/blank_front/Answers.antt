@@ -1,5 +1,4 @@
-use Rattle.std.proofs.Common.{◌≡◌, ◌+◌, ◌-◌, ◌++◌, ℕ, List, length, take, drop, replicate, sym, ◌∙◌, ap}
-use Rattle.std.specs.List.{copy_within}
+use Rattle.surf_cert.proofs.Common.{◌≡◌, ◌+◌, ◌-◌, ◌++◌, ℕ, List, length, take, drop, replicate, sym, ◌∙◌, ap, copy_within}
 use Rattle.surf_cert.proofs.BlankLines.{put_back, moved_up}
 use Rattle.surf_cert.proofs.blank.blank_front.Goals as goal
 

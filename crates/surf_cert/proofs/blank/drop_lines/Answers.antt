@@ -1,5 +1,4 @@
-use Rattle.std.proofs.Common.{◌≡◌, ◌+◌, ℕ, List, drop, sym, ◌∙◌, ap, arith}
-use Rattle.surf_text.specs.Text.{lines_of}
+use Rattle.surf_cert.proofs.Common.{◌≡◌, ◌+◌, ℕ, List, drop, sym, ◌∙◌, ap, arith, lines_of}
 use Rattle.surf_cert.proofs.BlankLines.{from_line, blank_lines}
 use Rattle.surf_cert.proofs.blank.drop_lines.Goals as goal
 

@@ -1,5 +1,4 @@
-use Rattle.std.proofs.Common.{◌≡◌, ◌≤◌, ◌+◌, ◌-◌, length, drop}
-use Rattle.surf_text.specs.Text.{lines_of}
+use Rattle.surf_cert.proofs.Common.{◌≡◌, ◌≤◌, ◌+◌, ◌-◌, length, drop, lines_of}
 use Rattle.surf_cert.proofs.BlankLines.{from_line}
 use Rattle.surf_cert.proofs.blank.find_behind.Given as goal
 

@@ -1,9 +1,5 @@
-use Rattle.std.proofs.Common.{◌≡◌, List, drop, subst, ap, ◌∙◌}
-use Rattle.surf_text.specs.Text.{TextLine, lines_of}
-use Rattle.surf_base.specs.Gives.{Gives}
-use Rattle.surf_cert.specs.declared.fault.CertText.TheVariants.{Memory}
+use Rattle.surf_cert.proofs.Common.{◌≡◌, List, drop, subst, ap, ◌∙◌, TextLine, lines_of, Gives, Memory, front_in}
 use Rattle.surf_cert.specs.declared.front.Front.{Front}
-use Rattle.surf_cert.specs.Fronts.{front_in}
 use Rattle.surf_cert.proofs.FrontLines.{front_behind, header_gone}
 use Rattle.surf_cert.proofs.front.read_front.Goals as goal
 

@@ -1,9 +1,4 @@
-use Rattle.surf_surfaces.proofs.Common.{◌≡◌, ◌+◌, ℕ, List, drop, subst, sym, ap, ◌∙◌, err_from_is_err_and}
-use Rattle.surf_text.specs.Text.{TextLine, lines_of}
-use Rattle.surf_base.specs.Gives.{Gives}
-use Rattle.surf_cert.specs.declared.fault.CertText.TheVariants.{Memory}
-use Rattle.surf_cert.specs.Grammar.{loops_in}
-use Rattle.surf_cert.specs.Fronts.{Front, front_faces, behind_front}
+use Rattle.surf_cert.proofs.Common.{◌≡◌, ◌+◌, ℕ, List, drop, subst, sym, ap, ◌∙◌, err_from_is_err_and, TextLine, lines_of, Gives, Memory, loops_in, Front, front_faces, behind_front}
 use Rattle.surf_cert.proofs.FrontLines.{front_read, front_bad}
 use Rattle.surf_cert.proofs.front.take_loops.Goals as goal
 

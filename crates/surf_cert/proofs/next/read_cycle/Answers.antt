@@ -1,8 +1,4 @@
-use Rattle.surf_surfaces.proofs.Common.{arith, ◌∙◌, sym, ap, ℕ, List, Option, Ok, nat_tests, common_steps}
-use Rattle.surf_text.specs.Text.{tokens_of}
-use Rattle.surf_cert.specs.Lines.{numbers_of}
-use Rattle.std.specs.Prelude.{ok_or}
-use Rattle.surf_cert.specs.declared.fault.CertText.TheVariants.{Form}
+use Rattle.surf_cert.proofs.Common.{arith, ◌∙◌, sym, ap, ℕ, List, Option, Ok, nat_tests, common_steps, tokens_of, numbers_of, ok_or, Form}
 use Rattle.surf_cert.proofs.Numbers.{cycle_none, cycle_some, formed_ok}
 use Rattle.surf_cert.proofs.next.read_cycle.Goals as goal
 

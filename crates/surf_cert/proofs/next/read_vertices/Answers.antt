@@ -1,7 +1,4 @@
-use Rattle.std.proofs.Common.{◌∙◌, sym, ap, ℕ, List, Option}
-use Rattle.std.specs.Prelude.{ok_or}
-use Rattle.surf_cert.specs.declared.fault.CertText.TheVariants.{Form}
-use Rattle.surf_cert.specs.Lines.{numbers_of}
+use Rattle.surf_cert.proofs.Common.{◌∙◌, sym, ap, ℕ, List, Option, ok_or, Form, numbers_of}
 use Rattle.surf_cert.proofs.Numbers.{with_numbers, number_more, number_bad, numbers_done}
 use Rattle.surf_cert.proofs.next.read_vertices.Goals as goal
 

@@ -1,6 +1,4 @@
-use Rattle.std.proofs.Common.{◌≡◌, length}
-use Rattle.surf_text.specs.Text.{tokens_of}
-use Rattle.surf_cert.specs.Lines.{numbers_of}
+use Rattle.surf_cert.proofs.Common.{◌≡◌, length, tokens_of, numbers_of}
 use Rattle.surf_cert.proofs.Numbers.{with_numbers}
 use Rattle.surf_cert.proofs.next.read_vertices.Given as goal
 

@@ -1,6 +1,4 @@
-use Rattle.surf_surfaces.proofs.Common.{arith, ◌≡◌, ◌-◌, err_from_is_err_and}
-use Rattle.surf_validity.specs.Rows.{DualRows}
-use Rattle.surf_cert.specs.Lines.{dual_row}
+use Rattle.surf_cert.proofs.Common.{arith, ◌≡◌, ◌-◌, err_from_is_err_and, DualRows, dual_row}
 use Rattle.surf_cert.proofs.RowLines.{push_face, faces_start, row_more, row_bad, rows_done}
 use Rattle.surf_cert.proofs.sections.read_more_faces.Goals as goal
 

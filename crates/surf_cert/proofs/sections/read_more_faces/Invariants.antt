@@ -1,7 +1,4 @@
-use Rattle.std.proofs.Common.{◌≡◌, ◌-◌}
-use Rattle.surf_cert.specs.Lines.{dual_row}
-use Rattle.surf_cert.specs.Grammar.{rows_of}
-use Rattle.surf_cert.specs.Fronts.{more_faces}
+use Rattle.surf_cert.proofs.Common.{◌≡◌, ◌-◌, dual_row, rows_of, more_faces}
 use Rattle.surf_cert.proofs.RowLines.{with_rows, push_face}
 use Rattle.surf_cert.proofs.sections.read_more_faces.Given as goal
 

@@ -1,5 +1,4 @@
-use Rattle.surf_surfaces.proofs.Common.{arith, ◌-◌, ◌≡◌, None, err_from_is_err_and}
-use Rattle.surf_cert.specs.Grammar.{pairs_of}
+use Rattle.surf_cert.proofs.Common.{arith, ◌-◌, ◌≡◌, None, err_from_is_err_and, pairs_of}
 use Rattle.surf_cert.proofs.RowLines.{list_start, pair_more, pair_bad, pairs_done}
 use Rattle.surf_cert.proofs.sections.read_pairs.Goals as goal
 

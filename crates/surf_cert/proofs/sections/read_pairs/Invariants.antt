@@ -1,5 +1,4 @@
-use Rattle.std.proofs.Common.{◌≡◌, ◌-◌, None}
-use Rattle.surf_cert.specs.Grammar.{pairs_of}
+use Rattle.surf_cert.proofs.Common.{◌≡◌, ◌-◌, None, pairs_of}
 use Rattle.surf_cert.proofs.RowLines.{with_rows, push_one}
 use Rattle.surf_cert.proofs.sections.read_pairs.Given as goal
 

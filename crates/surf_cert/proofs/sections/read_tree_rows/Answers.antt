@@ -1,6 +1,4 @@
-use Rattle.surf_surfaces.proofs.Common.{arith, ◌≡◌, ◌-◌, err_from_is_err_and}
-use Rattle.surf_validity.specs.Rows.{TreeRows}
-use Rattle.surf_cert.specs.Lines.{tree_row}
+use Rattle.surf_cert.proofs.Common.{arith, ◌≡◌, ◌-◌, err_from_is_err_and, TreeRows, tree_row}
 use Rattle.surf_cert.proofs.RowLines.{push_vertex, tree_start, row_more, row_bad, rows_done}
 use Rattle.surf_cert.proofs.sections.read_tree_rows.Goals as goal
 

@@ -1,6 +1,4 @@
-use Rattle.std.proofs.Common.{◌≡◌, ◌-◌}
-use Rattle.surf_cert.specs.Lines.{tree_row}
-use Rattle.surf_cert.specs.Grammar.{rows_of, tree_of}
+use Rattle.surf_cert.proofs.Common.{◌≡◌, ◌-◌, tree_row, rows_of, tree_of}
 use Rattle.surf_cert.proofs.RowLines.{with_rows, push_vertex}
 use Rattle.surf_cert.proofs.sections.read_tree_rows.Given as goal
 

@@ -1,5 +1,4 @@
-use Rattle.surf_surfaces.proofs.Common.{arith, ◌-◌, ◌≡◌, err_from_is_err_and}
-use Rattle.surf_cert.specs.Grammar.{trees_of}
+use Rattle.surf_cert.proofs.Common.{arith, ◌-◌, ◌≡◌, err_from_is_err_and, trees_of}
 use Rattle.surf_cert.proofs.RowLines.{list_start, tree_more, tree_bad, trees_done}
 use Rattle.surf_cert.proofs.sections.read_trees.Goals as goal
 

@@ -1,5 +1,4 @@
-use Rattle.std.proofs.Common.{◌≡◌, ◌-◌}
-use Rattle.surf_cert.specs.Grammar.{trees_of}
+use Rattle.surf_cert.proofs.Common.{◌≡◌, ◌-◌, trees_of}
 use Rattle.surf_cert.proofs.RowLines.{with_rows, push_one}
 use Rattle.surf_cert.proofs.sections.read_trees.Given as goal
 

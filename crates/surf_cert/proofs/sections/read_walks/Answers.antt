@@ -1,6 +1,4 @@
-use Rattle.surf_surfaces.proofs.Common.{arith, ◌-◌, ◌≡◌, err_from_is_err_and}
-use Rattle.surf_cert.specs.Lines.{cycle_of}
-use Rattle.surf_cert.specs.Grammar.{rows_of}
+use Rattle.surf_cert.proofs.Common.{arith, ◌-◌, ◌≡◌, err_from_is_err_and, cycle_of, rows_of}
 use Rattle.surf_cert.proofs.RowLines.{push_one, list_start, row_more, row_bad, rows_done}
 use Rattle.surf_cert.proofs.sections.read_walks.Goals as goal
 

@@ -1,6 +1,4 @@
-use Rattle.std.proofs.Common.{◌≡◌, ◌-◌}
-use Rattle.surf_cert.specs.Lines.{cycle_of}
-use Rattle.surf_cert.specs.Grammar.{rows_of}
+use Rattle.surf_cert.proofs.Common.{◌≡◌, ◌-◌, cycle_of, rows_of}
 use Rattle.surf_cert.proofs.RowLines.{with_rows, push_one}
 use Rattle.surf_cert.proofs.sections.read_walks.Given as goal
 

@@ -1,11 +1,6 @@
-use Rattle.std.proofs.Common.{◌≡◌, ℕ, List, Result, Ok, ◌++◌, length, refl, ap, ◌∙◌, flat_map, codes}
-use Rattle.std.proofs.lemmas.Result.{err_from_is_err_and}
-use Rattle.surf_text.specs.Pages.{PageState, Puts}
+use Rattle.surf_cert.proofs.Common.{◌≡◌, ℕ, List, Result, Ok, ◌++◌, length, refl, ap, ◌∙◌, flat_map, codes, err_from_is_err_and, PageState, Puts, puts_more, puts_stop, DualRows, BasisCert, cert_head_text, tree_text, dual_text, left_text, cycles_text, basis_text}
 use Rattle.surf_text.specs.declared.page.PageFault.{PageFault}
 use Rattle.surf_cert.proofs.Reread.{basis_again}
-use Rattle.surf_text.proofs.Writing.{puts_more, puts_stop}
-use Rattle.surf_validity.specs.Rows.{DualRows, BasisCert}
-use Rattle.surf_cert.specs.Written.{cert_head_text, tree_text, dual_text, left_text, cycles_text, basis_text}
 use Rattle.surf_cert.proofs.write.write_basis_cert.Goals as goal
 use Rattle.surf_cert.proofs.write.write_basis_cert.Goals.{After-write_head, After-write_trees, After-write_dual}
 

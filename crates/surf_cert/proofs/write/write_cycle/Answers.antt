@@ -1,9 +1,5 @@
-use Rattle.surf_surfaces.proofs.Common.{◌≡◌, ℕ, List, ◌++◌, refl, ◌∙◌, subst, codes, decimal, get_or, drop, err_from_is_err_and, take_rest}
-use Rattle.surf_text.specs.Pages.{Puts}
+use Rattle.surf_cert.proofs.Common.{◌≡◌, ℕ, List, ◌++◌, refl, ◌∙◌, subst, codes, decimal, get_or, drop, err_from_is_err_and, take_rest, Puts, puts_more, puts_stop, numbers_text, cycle_line}
 use Rattle.surf_cert.proofs.WrittenRows.{cycle_first}
-use Rattle.surf_text.proofs.Writing.{puts_more, puts_stop}
-use Rattle.surf_text.specs.Numbers.{numbers_text}
-use Rattle.surf_cert.specs.Written.{cycle_line}
 use Rattle.surf_cert.proofs.write.write_cycle.Goals as goal
 
 pub returns-in_err-push_whole : goal.returns-in_err-push_whole

@@ -1,6 +1,4 @@
-use Rattle.std.proofs.Common.{flat_map, codes}
-use Rattle.surf_text.proofs.Writing.{puts_more}
-use Rattle.surf_cert.specs.Written.{cycle_line}
+use Rattle.surf_cert.proofs.Common.{flat_map, codes, puts_more, cycle_line}
 use Rattle.surf_cert.proofs.write.write_cycles.Goals as goal
 
 pub returns : goal.returns

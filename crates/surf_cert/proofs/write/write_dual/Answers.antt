@@ -1,7 +1,4 @@
-use Rattle.std.proofs.Common.{flat_map, codes}
-use Rattle.std.specs.List.{zip}
-use Rattle.surf_text.proofs.Writing.{puts_more}
-use Rattle.surf_cert.specs.Written.{face_line}
+use Rattle.surf_cert.proofs.Common.{flat_map, codes, zip, puts_more, face_line}
 use Rattle.surf_cert.proofs.write.write_dual.Goals as goal
 
 pub returns : goal.returns

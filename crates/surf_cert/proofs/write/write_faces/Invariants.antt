@@ -1,7 +1,4 @@
-use Rattle.std.proofs.Common.{take, Ok, flat_map}
-use Rattle.std.specs.List.{zip}
-use Rattle.surf_text.specs.Pages.{Puts}
-use Rattle.surf_cert.specs.Written.{face_line}
+use Rattle.surf_cert.proofs.Common.{take, Ok, flat_map, zip, Puts, face_line}
 use Rattle.surf_cert.proofs.write.write_faces.Given as goal
 
 abbrev pub invariant-loop-f : goal.invariant-loop-f

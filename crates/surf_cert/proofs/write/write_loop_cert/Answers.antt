@@ -1,9 +1,5 @@
-use Rattle.surf_surfaces.proofs.Common.{ℕ, List, ◌++◌, length, refl, ap, ◌∙◌, codes, err_from_is_err_and}
-use Rattle.surf_text.specs.Pages.{Puts}
+use Rattle.surf_cert.proofs.Common.{ℕ, List, ◌++◌, length, refl, ap, ◌∙◌, codes, err_from_is_err_and, Puts, puts_more, puts_stop, TreeRows, DualRows, LoopCert, cert_head_text, tree_text, dual_text, left_text}
 use Rattle.surf_cert.proofs.Reread.{loops_again}
-use Rattle.surf_text.proofs.Writing.{puts_more, puts_stop}
-use Rattle.surf_validity.specs.Rows.{TreeRows, DualRows, LoopCert}
-use Rattle.surf_cert.specs.Written.{cert_head_text, tree_text, dual_text, left_text}
 use Rattle.surf_cert.proofs.write.write_loop_cert.Goals as goal
 use Rattle.surf_cert.proofs.write.write_loop_cert.Goals.{After-write_head}
 

@@ -1,6 +1,4 @@
-use Rattle.std.proofs.Common.{take, Ok}
-use Rattle.surf_text.specs.Pages.{Puts}
-use Rattle.surf_text.specs.Numbers.{numbers_text}
+use Rattle.surf_cert.proofs.Common.{take, Ok, Puts, numbers_text}
 use Rattle.surf_cert.proofs.write.write_numbers.Given as goal
 
 abbrev pub invariant-loop-v : goal.invariant-loop-v

@@ -1,6 +1,4 @@
-use Rattle.std.proofs.Common.{take, Ok, flat_map}
-use Rattle.surf_text.specs.Pages.{Puts}
-use Rattle.surf_cert.specs.Written.{pair_line}
+use Rattle.surf_cert.proofs.Common.{take, Ok, flat_map, Puts, pair_line}
 use Rattle.surf_cert.proofs.write.write_pairs.Given as goal
 
 abbrev pub invariant-loop-u : goal.invariant-loop-u

@@ -1,8 +1,4 @@
-use Rattle.std.proofs.Common.{ℕ, refl, ◌∙◌, subst, flat_map}
-use Rattle.surf_surfaces.proofs.Common.{zip, err_from_is_err_and}
-use Rattle.surf_text.specs.Pages.{Puts}
-use Rattle.surf_text.proofs.Writing.{puts_more, puts_stop}
-use Rattle.surf_cert.specs.Written.{base_line, vertex_line}
+use Rattle.surf_cert.proofs.Common.{ℕ, refl, ◌∙◌, subst, flat_map, zip, err_from_is_err_and, Puts, puts_more, puts_stop, base_line, vertex_line}
 use Rattle.surf_cert.proofs.write.write_tree.Goals as goal
 
 pub returns-in_err-push_pieces : goal.returns-in_err-push_pieces

@@ -1,9 +1,4 @@
-use Rattle.std.proofs.Common.{◌<◌, ◌≤◌, length, get_or, refl, subst, flat_map}
-use Rattle.std.proofs.lemmas.Result.{err_from_is_err_and}
-use Rattle.surf_text.specs.Pages.{Puts}
-use Rattle.surf_text.proofs.Writing.{loop_more, loop_stop, loop_done}
-use Rattle.surf_validity.specs.Rows.{TreeRows}
-use Rattle.surf_cert.specs.Written.{tree_text}
+use Rattle.surf_cert.proofs.Common.{◌<◌, ◌≤◌, length, get_or, refl, subst, flat_map, err_from_is_err_and, Puts, loop_more, loop_stop, loop_done, TreeRows, tree_text}
 use Rattle.surf_cert.proofs.write.write_trees.Goals as goal
 
 pub returns-in_err-write_tree : goal.returns-in_err-write_tree

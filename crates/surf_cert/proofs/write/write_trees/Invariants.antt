@@ -1,6 +1,4 @@
-use Rattle.std.proofs.Common.{take, Ok, flat_map}
-use Rattle.surf_text.specs.Pages.{Puts}
-use Rattle.surf_cert.specs.Written.{tree_text}
+use Rattle.surf_cert.proofs.Common.{take, Ok, flat_map, Puts, tree_text}
 use Rattle.surf_cert.proofs.write.write_trees.Given as goal
 
 abbrev pub invariant-loop-tree : goal.invariant-loop-tree

@@ -1,9 +1,5 @@
-use Rattle.std.proofs.Common.{◌<◌, ℕ, List, length, get_or, Option, refl, ◌∙◌, ap, subst, flat_map, arith}
-use Rattle.surf_surfaces.proofs.Common.{zip, err_from_is_err_and}
+use Rattle.surf_cert.proofs.Common.{◌<◌, ℕ, List, length, get_or, Option, refl, ◌∙◌, ap, subst, flat_map, arith, zip, err_from_is_err_and, Puts, loop_more, loop_stop, loop_done, vertex_line}
 use Rattle.surf_cert.proofs.WrittenRows.{row_below, rows_end, row_at}
-use Rattle.surf_text.specs.Pages.{Puts}
-use Rattle.surf_text.proofs.Writing.{loop_more, loop_stop, loop_done}
-use Rattle.surf_cert.specs.Written.{vertex_line}
 use Rattle.surf_cert.proofs.write.write_vertices.Goals as goal
 
 pub returns-in_err-write_vertex : goal.returns-in_err-write_vertex

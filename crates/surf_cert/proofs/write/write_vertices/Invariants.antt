@@ -1,7 +1,4 @@
-use Rattle.std.proofs.Common.{take, Ok, flat_map}
-use Rattle.std.specs.List.{zip}
-use Rattle.surf_text.specs.Pages.{Puts}
-use Rattle.surf_cert.specs.Written.{vertex_line}
+use Rattle.surf_cert.proofs.Common.{take, Ok, flat_map, zip, Puts, vertex_line}
 use Rattle.surf_cert.proofs.write.write_vertices.Given as goal
 
 abbrev pub invariant-loop-v : goal.invariant-loop-v

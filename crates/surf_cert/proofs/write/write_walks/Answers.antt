@@ -1,8 +1,4 @@
-use Rattle.std.proofs.Common.{◌<◌, ◌≤◌, ℕ, List, length, get_or, refl, subst, flat_map}
-use Rattle.std.proofs.lemmas.Result.{err_from_is_err_and}
-use Rattle.surf_text.specs.Pages.{Puts}
-use Rattle.surf_text.proofs.Writing.{loop_more, loop_stop, loop_done}
-use Rattle.surf_cert.specs.Written.{cycle_line}
+use Rattle.surf_cert.proofs.Common.{◌<◌, ◌≤◌, ℕ, List, length, get_or, refl, subst, flat_map, err_from_is_err_and, Puts, loop_more, loop_stop, loop_done, cycle_line}
 use Rattle.surf_cert.proofs.write.write_walks.Goals as goal
 
 pub returns-in_err-write_cycle : goal.returns-in_err-write_cycle

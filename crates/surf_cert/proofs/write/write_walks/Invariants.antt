@@ -1,6 +1,4 @@
-use Rattle.std.proofs.Common.{take, Ok, flat_map}
-use Rattle.surf_text.specs.Pages.{Puts}
-use Rattle.surf_cert.specs.Written.{cycle_line}
+use Rattle.surf_cert.proofs.Common.{take, Ok, flat_map, Puts, cycle_line}
 use Rattle.surf_cert.proofs.write.write_walks.Given as goal
 
 abbrev pub invariant-loop-cycle : goal.invariant-loop-cycle

@@ -1,11 +1,6 @@
-use Rattle.surf_surfaces.proofs.Common.{rules, ◌≡◌, ◌<◌, ◌∙◌, map, sym, ap, subst, arith, edge_count}
-use Rattle.surf_validity.specs.Bases.{tree_at, split_in, weighed_cycle, IsCovered}
-use Rattle.surf_treecheck.specs.TreeFaults.{IsFirstAt}
-use Rattle.surf_certcheck.specs.Climbs.{IsClimbed}
-use Rattle.surf_treecheck.specs.First.{HoldsBelow, FailsFirst}
-use Rattle.surf_certcheck.specs.Frames.{IsCoveredBy}
+use Rattle.surf_treecheck.proofs.Common.{rules, ◌≡◌, ◌<◌, ◌∙◌, map, sym, ap, subst, arith, edge_count, tree_at, split_in, weighed_cycle, IsCovered, IsFirstAt, HoldsBelow, FailsFirst}
+use Rattle.surf_certcheck.proofs.Common.{IsClimbed, IsCoveredBy, lengths_positive}
 use Rattle.surf_certcheck.proofs.Bases.{AreCovered, first_at, holds_more}
-use Rattle.surf_lengths.proofs.Positive.{lengths_positive}
 use Rattle.surf_certcheck.proofs.Independence.{frame_whole}
 use Rattle.surf_certcheck.proofs.Validity.{climbed_at}
 use Rattle.surf_certcheck.proofs.cover.first_uncovered.Goals as goal

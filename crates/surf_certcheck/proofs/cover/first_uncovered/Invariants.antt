@@ -1,5 +1,4 @@
-use Rattle.surf_surfaces.proofs.Common.{◌≡◌, length, IsPermutation, range_with_len}
-use Rattle.surf_treecheck.specs.First.{HoldsBelow}
+use Rattle.surf_treecheck.proofs.Common.{◌≡◌, length, IsPermutation, range_with_len, HoldsBelow}
 use Rattle.surf_certcheck.proofs.Bases.{AreCovered}
 use Rattle.surf_certcheck.proofs.cover.first_uncovered.Given as goal
 

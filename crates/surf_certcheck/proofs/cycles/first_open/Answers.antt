@@ -1,6 +1,5 @@
-use Rattle.std.proofs.Common.{subst}
-use Rattle.surf_validity.specs.Bases.{IsClosedList}
-use Rattle.surf_certcheck.specs.BasisFaults.{IsCycleClosed}
+use Rattle.surf_treecheck.proofs.Common.{subst, IsClosedList}
+use Rattle.surf_certcheck.proofs.Common.{IsCycleClosed}
 use Rattle.surf_certcheck.proofs.Bases.{holds_more}
 use Rattle.surf_certcheck.proofs.cycles.first_open.Goals as goal
 

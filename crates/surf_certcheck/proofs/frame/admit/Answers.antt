@@ -1,5 +1,4 @@
-use Rattle.surf_surfaces.proofs.Common.{◌≡◌, ◌<◌, ◌^◌, ◌∙◌, bit_xor, refl, ap, sym, subst, arith, walk_length, xor_lt, pow_below}
-use Rattle.surf_validity.specs.Bases.{split_in}
+use Rattle.surf_treecheck.proofs.Common.{◌≡◌, ◌<◌, ◌^◌, ◌∙◌, bit_xor, refl, ap, sym, subst, arith, walk_length, xor_lt, pow_below, split_in}
 use Rattle.surf_certcheck.proofs.Independence.{set_is, set_small, none_free, one_free}
 use Rattle.surf_certcheck.proofs.frame.admit.Goals as goal
 

@@ -1,7 +1,5 @@
-use Rattle.std.proofs.Common.{rules, ◌≡◌, ◌<◌, ◌∙◌, length, subst}
-use Rattle.surf_certcheck.specs.BasisFaults.{IsIndependentAt}
-use Rattle.surf_treecheck.specs.First.{HoldsBelow}
-use Rattle.surf_certcheck.specs.Frames.{IsFrameOf}
+use Rattle.surf_treecheck.proofs.Common.{rules, ◌≡◌, ◌<◌, ◌∙◌, length, subst, HoldsBelow}
+use Rattle.surf_certcheck.proofs.Common.{IsIndependentAt, IsFrameOf}
 use Rattle.surf_certcheck.proofs.Bases.{holds_more}
 use Rattle.surf_certcheck.proofs.frame.admit_all.Goals as goal
 

@@ -1,7 +1,5 @@
-use Rattle.surf_surfaces.proofs.Common.{◌≡◌, length, edge_count}
-use Rattle.surf_treecheck.specs.First.{HoldsBelow}
-use Rattle.surf_certcheck.specs.BasisFaults.{IsIndependentAt}
-use Rattle.surf_certcheck.specs.Frames.{IsFrameOf}
+use Rattle.surf_treecheck.proofs.Common.{◌≡◌, length, edge_count, HoldsBelow}
+use Rattle.surf_certcheck.proofs.Common.{IsIndependentAt, IsFrameOf}
 use Rattle.surf_certcheck.proofs.frame.admit_all.Given as goal
 
 -- each cycle before has a place

@@ -1,5 +1,4 @@
-use Rattle.std.proofs.Common.{◌≡◌, length, map, take, ap, ◌∙◌, arith}
-use Rattle.surf_validity.specs.Bases.{split_in, weighed_cycle}
+use Rattle.surf_treecheck.proofs.Common.{◌≡◌, length, map, take, ap, ◌∙◌, arith, split_in, weighed_cycle}
 use Rattle.surf_certcheck.proofs.Framing.{frame_none, no_weight}
 use Rattle.surf_certcheck.proofs.Validity.{signed_at, signed_count}
 use Rattle.surf_certcheck.proofs.frame.frame_cycles.Goals as goal

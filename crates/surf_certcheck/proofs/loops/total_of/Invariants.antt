@@ -1,5 +1,4 @@
-use Rattle.surf_surfaces.proofs.Common.{◌≡◌, ◌≤◌, ◌*◌, ◌^◌, map, sum, take, edge_number}
-use Rattle.surf_validity.specs.Valid.{loop_size}
+use Rattle.surf_treecheck.proofs.Common.{◌≡◌, ◌≤◌, ◌*◌, ◌^◌, map, sum, take, edge_number, loop_size}
 use Rattle.surf_certcheck.proofs.loops.total_of.Given as goal
 
 -- the loops of the pairs before

@@ -1,6 +1,5 @@
-use Rattle.surf_surfaces.proofs.Common.{ℕ, ◌≡◌, ◌<◌, ◌^◌, ◌+◌, ◌-◌, ◌*◌, get_or, sym, subst, arith, w64, leading_zeros, number, number_zero}
-use Rattle.std.proofs.lemmas.Nat.{leading_top}
-use Rattle.surf_certcheck.specs.Columns.{IsGreatestIn}
+use Rattle.surf_treecheck.proofs.Common.{ℕ, ◌≡◌, ◌<◌, ◌^◌, ◌+◌, ◌-◌, ◌*◌, get_or, sym, subst, arith, w64, leading_zeros, number, number_zero, leading_top}
+use Rattle.surf_certcheck.proofs.Common.{IsGreatestIn}
 use Rattle.surf_certcheck.proofs.Greatest.{words_greatest}
 use Rattle.surf_certcheck.proofs.placed.greatest_in.Goals as goal
 

@@ -1,6 +1,5 @@
-use Rattle.std.proofs.Common.{rules, ◌≡◌, ◌∙◌, ◌++◌, ◌∷◌, [], true, false, ap, sym}
-use Rattle.surf_signatures.proofs.Passing.{passing_taken, passing_left}
-use Rattle.surf_treecheck.specs.Split.{is_flagged}
+use Rattle.surf_treecheck.proofs.Common.{rules, ◌≡◌, ◌∙◌, ◌++◌, ◌∷◌, [], true, false, ap, sym, is_flagged}
+use Rattle.surf_certcheck.proofs.Common.{passing_taken, passing_left}
 use Rattle.surf_certcheck.proofs.signing.list_flagged.Goals as goal
 use Rattle.surf_certcheck.proofs.signing.list_flagged.Goals.{then-flags-e+in_ok-push, else-flags-e}
 

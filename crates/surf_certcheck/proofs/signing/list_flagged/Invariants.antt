@@ -1,5 +1,4 @@
-use Rattle.surf_surfaces.proofs.Common.{◌≡◌, filter, range_with_len}
-use Rattle.surf_treecheck.specs.Split.{is_flagged}
+use Rattle.surf_treecheck.proofs.Common.{◌≡◌, filter, range_with_len, is_flagged}
 use Rattle.surf_certcheck.proofs.signing.list_flagged.Given as goal
 
 -- the flagged edges before

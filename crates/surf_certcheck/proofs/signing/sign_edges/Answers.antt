@@ -1,7 +1,4 @@
-use Rattle.surf_surfaces.proofs.Common.{◌≡◌, ◌≤◌, ◌∙◌, length, sym, ap, subst, arith, face_count}
-use Rattle.surf_validity.specs.Bases.{split_in}
-use Rattle.surf_validity.specs.Valid.{IsDualValid}
-use Rattle.surf_treecheck.specs.Paths.{AreLinks}
+use Rattle.surf_treecheck.proofs.Common.{◌≡◌, ◌≤◌, ◌∙◌, length, sym, ap, subst, arith, face_count, split_in, IsDualValid, AreLinks}
 use Rattle.surf_certcheck.proofs.Validity.{links_are_tree, links_hang, left_is, left_size}
 use Rattle.surf_certcheck.proofs.signing.sign_edges.Goals as goal
 

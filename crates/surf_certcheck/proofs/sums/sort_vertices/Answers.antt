@@ -1,5 +1,4 @@
-use Rattle.surf_surfaces.proofs.Common.{rules, IsNonDecreasingBy-from_sort_by_key}
-use Rattle.surf_validity.specs.Valid.{distance_at}
+use Rattle.surf_treecheck.proofs.Common.{rules, IsNonDecreasingBy-from_sort_by_key, distance_at}
 use Rattle.surf_certcheck.proofs.sums.sort_vertices.Goals as goal
 
 pub returns-clause-sorted : goal.returns-clause-sorted

@@ -1,7 +1,5 @@
-use Rattle.surf_surfaces.proofs.Common.{unwrap_or, ◌≡◌, ◌<◌, ◌*◌, ◌^◌, ◌∙◌, None, Some, bit_xor, slice_index, sym, ap, subst, arith, get_or-set_same, edge_number, xor_lt, pow_pos}
-use Rattle.surf_signatures.specs.Tables.{Signed, words_for}
-use Rattle.surf_signatures.specs.Ways.{way_class}
-use Rattle.surf_validity.specs.Valid.{certified_tree, parent_at, IsParent}
+use Rattle.surf_treecheck.proofs.Common.{unwrap_or, ◌≡◌, ◌<◌, ◌*◌, ◌^◌, ◌∙◌, None, Some, bit_xor, slice_index, sym, ap, subst, arith, get_or-set_same, edge_number, xor_lt, pow_pos, certified_tree, parent_at, IsParent}
+use Rattle.surf_certcheck.proofs.Common.{Signed, words_for, way_class}
 use Rattle.surf_certcheck.proofs.Climbing.{step_up, at_base, way_summed, way_empty}
 use Rattle.surf_certcheck.proofs.sums.sum_way.Goals as goal
 use Rattle.surf_certcheck.proofs.sums.sum_way.Goals.{in-Some, in_default}

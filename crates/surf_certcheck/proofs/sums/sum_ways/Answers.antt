@@ -1,6 +1,5 @@
-use Rattle.surf_surfaces.proofs.Common.{◌≡◌, ◌<◌, ◌≤◌, ◌∙◌, inl, inr, length, get_or, slice_index, sym, ap, subst, arith, range_with_len, cases_eq, cases_lt, get_or_default, IsPermutation-trans}
-use Rattle.surf_signatures.specs.Ways.{way_class}
-use Rattle.surf_validity.specs.Valid.{certified_tree, distance_at}
+use Rattle.surf_treecheck.proofs.Common.{◌≡◌, ◌<◌, ◌≤◌, ◌∙◌, inl, inr, length, get_or, slice_index, sym, ap, subst, arith, range_with_len, cases_eq, cases_lt, get_or_default, IsPermutation-trans, certified_tree, distance_at}
+use Rattle.surf_certcheck.proofs.Common.{way_class}
 use Rattle.surf_certcheck.proofs.Climbing.{order_in, listed, step_up}
 use Rattle.surf_certcheck.proofs.sums.sum_ways.Goals as goal
 

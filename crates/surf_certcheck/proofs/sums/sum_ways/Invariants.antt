@@ -1,7 +1,5 @@
-use Rattle.surf_surfaces.proofs.Common.{◌≡◌, ◌<◌, ℕ, length, slice_index, Split}
-use Rattle.surf_signatures.specs.Ways.{way_class}
-use Rattle.surf_validity.specs.Valid.{certified_tree}
-use Rattle.surf_certcheck.specs.Frames.{AreTaken}
+use Rattle.surf_treecheck.proofs.Common.{◌≡◌, ◌<◌, ℕ, length, slice_index, Split, certified_tree}
+use Rattle.surf_certcheck.proofs.Common.{way_class, AreTaken}
 use Rattle.surf_certcheck.proofs.sums.sum_ways.Given as goal
 
 -- the vertices before in the list have their sums

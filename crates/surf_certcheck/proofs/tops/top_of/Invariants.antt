@@ -1,6 +1,5 @@
-use Rattle.surf_surfaces.proofs.Common.{◌<◌, face_count}
-use Rattle.surf_validity.specs.Valid.{depth_at}
-use Rattle.surf_certcheck.specs.Tops.{AreTops, IsClear}
+use Rattle.surf_treecheck.proofs.Common.{◌<◌, face_count, depth_at}
+use Rattle.surf_certcheck.proofs.Common.{AreTops, IsClear}
 use Rattle.surf_certcheck.proofs.tops.top_of.Given as goal
 
 -- what was passed has no loop shorter than the limit

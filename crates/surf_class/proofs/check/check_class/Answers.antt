@@ -1,10 +1,7 @@
-use Rattle.surf_surfaces.proofs.Common.{◌≡◌, ◌≢◌, ◌<◌, true, ℕ, List, Bool, AllPairs, IfErr, sym, subst, pair_lt, edge_count, parity}
-use Rattle.surf_treecheck.specs.Split.{AreFlags}
-use Rattle.surf_classes.specs.Evidence.{null_faces, odd_pairs, IsEvidence}
-use Rattle.surf_class.specs.Faults.{IsClassFault}
+use Rattle.surf_cert.proofs.Common.{◌≡◌, ◌≢◌, ◌<◌, true, ℕ, List, Bool, AllPairs, IfErr, sym, subst, pair_lt, edge_count, parity}
+use Rattle.surf_class.proofs.Common.{AreFlags, null_faces, odd_pairs, IsEvidence, IsClassFault, ClassFault}
 use Rattle.surf_class.specs.Seen.{seen}
 use Rattle.surf_class.specs.declared.evidence.Evidence.{Evidence as Listed}
-use Rattle.surf_class.specs.declared.fault.ClassFault.{ClassFault}
 use Rattle.surf_class.specs.declared.fault.ClassFault.TheVariants.{Memory}
 use Rattle.surf_class.proofs.Checking.{excluded, if_err_map}
 use Rattle.surf_class.proofs.check.check_class.Goals as goal

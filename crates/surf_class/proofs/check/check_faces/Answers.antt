@@ -1,8 +1,5 @@
-use Rattle.surf_surfaces.proofs.Common.{◌<◌, ℕ, All, subst, sym, List, Bool, edge_count, face_count}
-use Rattle.surf_classes.specs.Evidence.{is_listed}
-use Rattle.surf_treecheck.specs.First.{HoldsBelow, FailsFirst}
-use Rattle.surf_treecheck.specs.Split.{AreFlags}
-use Rattle.surf_class.specs.Agreement.{AgreesAt}
+use Rattle.surf_cert.proofs.Common.{◌<◌, ℕ, All, subst, sym, List, Bool, edge_count, face_count}
+use Rattle.surf_class.proofs.Common.{is_listed, HoldsBelow, FailsFirst, AreFlags, AgreesAt}
 use Rattle.surf_class.proofs.Checking.{null_right, null_wrong}
 use Rattle.surf_class.proofs.check.check_faces.Goals as goal
 

@@ -1,6 +1,5 @@
-use Rattle.surf_surfaces.proofs.Common.{ℕ, sym, ap, ◌∙◌, subst, arith, false, position}
-use Rattle.std.proofs.lemmas.List.Quantifiers.{position-Some}
-use Rattle.surf_classes.specs.Faults.{IsOddFace}
+use Rattle.surf_cert.proofs.Common.{ℕ, sym, ap, ◌∙◌, subst, arith, false, position, position-Some}
+use Rattle.surf_class.proofs.Common.{IsOddFace}
 use Rattle.surf_class.proofs.Checking.{odd_face_at, odd_right, odd_wrong}
 use Rattle.surf_class.proofs.check.check_pairs.Goals as goal
 

@@ -1,6 +1,5 @@
-use Rattle.surf_surfaces.proofs.Common.{take, face_count}
-use Rattle.surf_treecheck.specs.Split.{AreFlags}
-use Rattle.surf_classes.specs.Evidence.{is_listed}
+use Rattle.surf_cert.proofs.Common.{take, face_count}
+use Rattle.surf_class.proofs.Common.{AreFlags, is_listed}
 use Rattle.surf_class.proofs.check.face_flags.Given as goal
 
 -- the faces before

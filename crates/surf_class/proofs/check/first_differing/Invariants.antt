@@ -1,5 +1,4 @@
-use Rattle.surf_treecheck.specs.First.{HoldsBelow}
-use Rattle.surf_class.specs.Agreement.{AgreesAt}
+use Rattle.surf_class.proofs.Common.{HoldsBelow, AgreesAt}
 use Rattle.surf_class.proofs.check.first_differing.Given as goal
 
 -- the edges before agree

@@ -1,6 +1,5 @@
-use Rattle.surf_surfaces.proofs.Common.{◌≡◌, ◌<◌, ℕ, List, All, AllPairs, Contains, true, false, get_or, subst, sym, ap, ◌∙◌, arith, get_or_default, pair, pair_lt, among, edges, edge_count, ends}
-use Rattle.surf_surfaces.proofs.meshes.EdgeLaws.{contains_from_among}
-use Rattle.surf_classes.specs.Faults.{IsNoPair}
+use Rattle.surf_cert.proofs.Common.{◌≡◌, ◌<◌, ℕ, List, All, AllPairs, Contains, true, false, get_or, subst, sym, ap, ◌∙◌, arith, get_or_default, pair, pair_lt, among, edges, edge_count, ends, contains_from_among}
+use Rattle.surf_class.proofs.Common.{IsNoPair}
 use Rattle.surf_class.proofs.LeastFaults.{no_pair_at, none_found}
 use Rattle.surf_class.proofs.Pairs.{pair_ordered}
 use Rattle.surf_class.proofs.check.first_stranger.Goals as goal

@@ -1,6 +1,5 @@
-use Rattle.surf_surfaces.proofs.Common.{◌≡◌, ◌<◌, ℕ, List, All, get_or, false, subst, sym, ap, ◌∙◌, Contains, take, get_or_default, xor, edges, edge_number}
-use Rattle.surf_treecheck.specs.Split.{is_flagged}
-use Rattle.surf_classes.specs.Evidence.{is_odd_in}
+use Rattle.surf_cert.proofs.Common.{◌≡◌, ◌<◌, ℕ, List, All, get_or, false, subst, sym, ap, ◌∙◌, Contains, take, get_or_default, xor, edges, edge_number}
+use Rattle.surf_class.proofs.Common.{is_flagged, is_odd_in}
 use Rattle.surf_class.proofs.StepEdges.{odd_next, differ_is}
 use Rattle.surf_class.proofs.check.is_odd.Goals as goal
 

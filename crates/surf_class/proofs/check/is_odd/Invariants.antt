@@ -1,6 +1,5 @@
-use Rattle.std.proofs.Common.{◌≡◌, take}
-use Rattle.surf_treecheck.specs.Split.{is_flagged}
-use Rattle.surf_classes.specs.Evidence.{is_odd_in}
+use Rattle.surf_cert.proofs.Common.{◌≡◌, take}
+use Rattle.surf_class.proofs.Common.{is_flagged, is_odd_in}
 use Rattle.surf_class.proofs.check.is_odd.Given as goal
 
 -- the pairs before

@@ -1,6 +1,5 @@
-use Rattle.surf_surfaces.proofs.Common.{◌≡◌, ◌<◌, ℕ, Bool, false, List, length, get_or, sym, ap, ◌∙◌, subst, arith, map, xor, odd, face_count, borders, edge_number, common_steps}
-use Rattle.surf_treecheck.specs.Split.{AreFlags}
-use Rattle.surf_classes.specs.Evidence.{has_odd_sides}
+use Rattle.surf_cert.proofs.Common.{◌≡◌, ◌<◌, ℕ, Bool, false, List, length, get_or, sym, ap, ◌∙◌, subst, arith, map, xor, odd, face_count, borders, edge_number, common_steps}
+use Rattle.surf_class.proofs.Common.{AreFlags, has_odd_sides}
 use Rattle.surf_class.proofs.Lists.{restored}
 use Rattle.surf_class.proofs.PairFlags.{odd_by_pairs}
 use Rattle.surf_class.proofs.check.odd_faces.Goals as goal

@@ -1,5 +1,4 @@
-use Rattle.surf_surfaces.proofs.Common.{◌<◌, ℕ, sym, subst, face_count}
-use Rattle.surf_surfaces.proofs.meshes.CellLaws.{surfaces_are_cells}
+use Rattle.surf_cert.proofs.Common.{◌<◌, ℕ, sym, subst, face_count, surfaces_are_cells}
 use Rattle.surf_class.proofs.edges.faces_beside.Goals as goal
 
 pub returns-clause-inside : goal.returns-clause-inside

@@ -1,10 +1,5 @@
-use Rattle.surf_surfaces.proofs.Common.{◌≡◌, ◌<◌, ◌∙◌, ℕ, List, Bool, Option, true, false, map, filter, length, get_or, sym, subst, ap, arith, range_with_len, get_or_default, Chain, dual, IsSplit, Tree, cells_of, Mesh, edge_count, ends, option_copied, IsBoundary}
-use Rattle.surf_signatures.specs.Signs.{has_left}
-use Rattle.surf_cotree.specs.Tables.{CotreeTables, cotree_of, split_with}
-use Rattle.surf_treecheck.specs.Split.{AreFlags}
-use Rattle.surf_classes.specs.Evidence.{joint_parity, IsChosenOdd, IsChosenNull}
-use Rattle.surf_classes.proofs.OddChoice.{odd_choice_is_right}
-use Rattle.surf_class.specs.Sides.{IsParted, AreAllSidesOf, differs}
+use Rattle.surf_cert.proofs.Common.{◌≡◌, ◌<◌, ◌∙◌, ℕ, List, Bool, Option, true, false, map, filter, length, get_or, sym, subst, ap, arith, range_with_len, get_or_default, Chain, dual, IsSplit, Tree, cells_of, Mesh, edge_count, ends, option_copied, IsBoundary}
+use Rattle.surf_class.proofs.Common.{has_left, CotreeTables, cotree_of, split_with, AreFlags, joint_parity, IsChosenOdd, IsChosenNull, odd_choice_is_right, IsParted, AreAllSidesOf, differs}
 use Rattle.surf_class.proofs.Choosing.{odd_ways, ways_part, odd_chosen, bounds_something, null_found}
 use Rattle.surf_class.proofs.finding.classify.Goals as goal
 use Rattle.surf_class.proofs.finding.classify.Goals.{After-first_differing, After-index-left-k}

@@ -1,6 +1,5 @@
-use Rattle.surf_surfaces.proofs.Common.{◌≡◌, ◌∙◌, ◌++◌, ◌∷◌, [], true, false, ap, sym, subst, List, ℕ, Bool, AllPairs, All, ◌<◌, map, filter, arith, range_with_len, map-append, pair_lt, ends}
-use Rattle.surf_treecheck.specs.Split.{is_flagged}
-use Rattle.surf_signatures.proofs.Passing.{passing_taken, passing_left}
+use Rattle.surf_cert.proofs.Common.{◌≡◌, ◌∙◌, ◌++◌, ◌∷◌, [], true, false, ap, sym, subst, List, ℕ, Bool, AllPairs, All, ◌<◌, map, filter, arith, range_with_len, map-append, pair_lt, ends}
+use Rattle.surf_class.proofs.Common.{is_flagged, passing_taken, passing_left}
 use Rattle.surf_class.proofs.EdgeLists.{edges_rise, edges_ordered}
 use Rattle.surf_class.proofs.finding.list_flagged.Goals as goal
 use Rattle.surf_class.proofs.finding.list_flagged.Goals.{then-flags-e+in_ok-push, else-flags-e}

@@ -1,7 +1,5 @@
-use Rattle.std.proofs.Common.{◌≡◌, ◌∙◌, ◌++◌, ◌∷◌, [], true, false, ap, sym, subst, List, ℕ, AllPairs, ◌<◌}
-use Rattle.surf_signatures.proofs.Passing.{passing_taken, passing_left}
-use Rattle.surf_classes.proofs.Listed.{climbing_at, passing_climb}
-use Rattle.surf_class.specs.Sides.{is_inside, side_at}
+use Rattle.surf_cert.proofs.Common.{◌≡◌, ◌∙◌, ◌++◌, ◌∷◌, [], true, false, ap, sym, subst, List, ℕ, AllPairs, ◌<◌}
+use Rattle.surf_class.proofs.Common.{passing_taken, passing_left, climbing_at, passing_climb, is_inside, side_at}
 use Rattle.surf_class.proofs.FaceSides.{inside_is}
 use Rattle.surf_class.proofs.finding.list_inside.Goals as goal
 use Rattle.surf_class.proofs.finding.list_inside.Goals.{then-eq+in_ok-push, else-eq}

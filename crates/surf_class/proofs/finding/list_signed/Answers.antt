@@ -1,8 +1,5 @@
-use Rattle.surf_surfaces.proofs.Common.{◌≡◌, ◌∙◌, List, ℕ, Bool, map, filter, get_or, false, ap, subst, arith, IfOk, range_with_len, dual, cells_of, edge_count, ends}
-use Rattle.surf_signatures.specs.Signs.{has_left}
-use Rattle.surf_signatures.proofs.Passing.{passing_same}
-use Rattle.surf_cotree.specs.Tables.{cotree_of}
-use Rattle.surf_treecheck.specs.Split.{is_flagged}
+use Rattle.surf_cert.proofs.Common.{◌≡◌, ◌∙◌, List, ℕ, Bool, map, filter, get_or, false, ap, subst, arith, IfOk, range_with_len, dual, cells_of, edge_count, ends}
+use Rattle.surf_class.proofs.Common.{has_left, passing_same, cotree_of, is_flagged}
 use Rattle.surf_class.proofs.finding.list_signed.Goals as goal
 
 pub returns : goal.returns

@@ -1,7 +1,5 @@
-use Rattle.std.proofs.Common.{◌≡◌, ◌+◌, ◌∷◌, [], ◌++◌, ◌∙◌, sym, ap, ℕ, List, Err, length, arith, subst, length-append}
-use Rattle.std.proofs.lemmas.Grind.{common_steps}
-use Rattle.surf_class.specs.Numbers.{numbers_from}
-use Rattle.surf_class.specs.declared.numbers.NumberFault.TheVariants.{Bad}
+use Rattle.surf_cert.proofs.Common.{◌≡◌, ◌+◌, ◌∷◌, [], ◌++◌, ◌∙◌, sym, ap, ℕ, List, Err, length, arith, subst, length-append, common_steps}
+use Rattle.surf_class.proofs.Common.{numbers_from, Bad}
 use Rattle.surf_class.proofs.Reading.{with_front, number_more, number_bad, numbers_done}
 use Rattle.surf_class.proofs.numbers.read_numbers.Goals as goal
 

@@ -1,7 +1,5 @@
-use Rattle.surf_surfaces.proofs.Common.{◌≡◌, ◌<◌, ◌∷◌, length, List, ℕ, sym, ap, ◌∙◌, subst, arith, Ok, None, nat_le, All, position}
-use Rattle.surf_text.specs.Text.{lines_of, tokens_of}
-use Rattle.surf_text.specs.Walks.{TokenWalk, text_line}
-use Rattle.surf_class.specs.Numbers.{numbers_from}
+use Rattle.surf_cert.proofs.Common.{◌≡◌, ◌<◌, ◌∷◌, length, List, ℕ, sym, ap, ◌∙◌, subst, arith, Ok, None, nat_le, All, position, lines_of, tokens_of, TokenWalk, text_line}
+use Rattle.surf_class.proofs.Common.{numbers_from}
 use Rattle.surf_class.proofs.LineSizes.{few_tokens}
 use Rattle.surf_class.proofs.PointLines.{trailing, alone, inside}
 use Rattle.surf_class.proofs.points.read_points.Goals as goal

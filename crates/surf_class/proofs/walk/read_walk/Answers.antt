@@ -1,7 +1,5 @@
-use Rattle.surf_surfaces.proofs.Common.{◌≡◌, ◌∷◌, length, List, ℕ, sym, ap, ◌∙◌, subst, arith, Option, Ok, None, true, false, nat_le, not, eqb, position, Mesh, pair_of, among, steps, edges, first, last, IsClosed}
-use Rattle.surf_text.specs.Text.{lines_of, tokens_of}
-use Rattle.surf_text.specs.Walks.{TokenWalk, text_line}
-use Rattle.surf_class.specs.Numbers.{numbers_from}
+use Rattle.surf_cert.proofs.Common.{◌≡◌, ◌∷◌, length, List, ℕ, sym, ap, ◌∙◌, subst, arith, Option, Ok, None, true, false, nat_le, not, eqb, position, Mesh, pair_of, among, steps, edges, first, last, IsClosed, lines_of, tokens_of, TokenWalk, text_line}
+use Rattle.surf_class.proofs.Common.{numbers_from}
 use Rattle.surf_class.proofs.LineSizes.{few_tokens}
 use Rattle.surf_class.proofs.WalkLines.{gap, unclosed, trailing, alone, closed}
 use Rattle.surf_class.proofs.walk.read_walk.Goals as goal

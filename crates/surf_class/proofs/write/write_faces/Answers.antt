@@ -1,8 +1,4 @@
-use Rattle.std.proofs.Common.{◌<◌, ◌≤◌, ℕ, List, ◌∷◌, ◌++◌, length, get_or, refl, ◌∙◌, ap, subst, codes, decimal, append-nil}
-use Rattle.std.proofs.lemmas.Result.{err_from_is_err_and}
-use Rattle.surf_text.specs.Pages.{Puts}
-use Rattle.surf_text.proofs.Writing.{loop_more, loop_stop, loop_done}
-use Rattle.surf_text.specs.Numbers.{numbers_text}
+use Rattle.surf_cert.proofs.Common.{◌<◌, ◌≤◌, ℕ, List, ◌∷◌, ◌++◌, length, get_or, refl, ◌∙◌, ap, subst, codes, decimal, append-nil, err_from_is_err_and, Puts, loop_more, loop_stop, loop_done, numbers_text}
 use Rattle.surf_class.proofs.write.write_faces.Goals as goal
 
 pub returns-in_err-push_pieces : goal.returns-in_err-push_pieces

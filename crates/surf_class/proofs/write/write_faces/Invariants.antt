@@ -1,6 +1,4 @@
-use Rattle.std.proofs.Common.{take, Ok}
-use Rattle.surf_text.specs.Pages.{Puts}
-use Rattle.surf_text.specs.Numbers.{numbers_text}
+use Rattle.surf_cert.proofs.Common.{take, Ok, Puts, numbers_text}
 use Rattle.surf_class.proofs.write.write_faces.Given as goal
 
 abbrev pub invariant-loop-face : goal.invariant-loop-face

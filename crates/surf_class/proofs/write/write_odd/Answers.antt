@@ -1,7 +1,5 @@
-use Rattle.surf_surfaces.proofs.Common.{◌++◌, refl, codes, length, err_from_is_err_and}
-use Rattle.surf_text.proofs.Writing.{puts_more, puts_stop}
-use Rattle.surf_text.specs.Numbers.{numbers_text}
-use Rattle.surf_class.specs.Texts.{evidence_head_text, both_ends}
+use Rattle.surf_cert.proofs.Common.{◌++◌, refl, codes, length, err_from_is_err_and, puts_more, puts_stop, numbers_text}
+use Rattle.surf_class.proofs.Common.{evidence_head_text, both_ends}
 use Rattle.surf_class.proofs.write.write_odd.Goals as goal
 
 pub returns-in_err-write_head : goal.returns-in_err-write_head

@@ -1,6 +1,4 @@
-use Rattle.surf_surfaces.proofs.Common.{◌<◌, ◌≤◌, ℕ, length, get_or, refl, subst, err_from_is_err_and}
-use Rattle.surf_text.specs.Pages.{Puts}
-use Rattle.surf_text.proofs.Writing.{loop_more, loop_stop, loop_done}
+use Rattle.surf_cert.proofs.Common.{◌<◌, ◌≤◌, ℕ, length, get_or, refl, subst, err_from_is_err_and, Puts, loop_more, loop_stop, loop_done}
 use Rattle.surf_class.proofs.PairTexts.{ends_text, end_text, ends_cons}
 use Rattle.surf_class.proofs.write.write_pairs.Goals as goal
 

@@ -1,7 +1,5 @@
-use Rattle.std.proofs.Common.{take, Ok}
-use Rattle.surf_text.specs.Pages.{Puts}
-use Rattle.surf_text.specs.Numbers.{numbers_text}
-use Rattle.surf_class.specs.Texts.{both_ends}
+use Rattle.surf_cert.proofs.Common.{take, Ok, Puts, numbers_text}
+use Rattle.surf_class.proofs.Common.{both_ends}
 use Rattle.surf_class.proofs.write.write_pairs.Given as goal
 
 abbrev pub invariant-loop-pair : goal.invariant-loop-pair

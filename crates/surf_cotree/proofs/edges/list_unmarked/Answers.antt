@@ -1,6 +1,4 @@
-use Rattle.std.proofs.Common.{◌≡◌, ◌∙◌, ◌++◌, ◌∷◌, [], List, ℕ, true, false, not, ap, sym}
-use Rattle.surf_cotree.specs.Searches.{outside}
-use Rattle.surf_signatures.proofs.Passing.{passing_taken, passing_left}
+use Rattle.surf_cotree.proofs.Common.{◌≡◌, ◌∙◌, ◌++◌, ◌∷◌, [], List, ℕ, true, false, not, ap, sym, outside, passing_taken, passing_left}
 use Rattle.surf_cotree.proofs.edges.list_unmarked.Goals as goal
 use Rattle.surf_cotree.proofs.edges.list_unmarked.Goals.{then-not-marks-edge+in_ok-push, else-not-marks-edge}
 

@@ -1,5 +1,4 @@
-use Rattle.surf_surfaces.proofs.Common.{◌≡◌, filter, range_with_len}
-use Rattle.surf_cotree.specs.Searches.{outside}
+use Rattle.surf_cotree.proofs.Common.{◌≡◌, filter, range_with_len, outside}
 use Rattle.surf_cotree.proofs.edges.list_unmarked.Given as goal
 
 abbrev pub invariant-loop-edge : goal.invariant-loop-edge

@@ -1,7 +1,4 @@
-use Rattle.surf_surfaces.proofs.Common.{◌≡◌, ◌<◌, ◌≤◌, ◌-◌, true, arith, dual, face_count, edge_count, cells_of}
-use Rattle.std.proofs.Math.ListN.{length-set}
-use Rattle.surf_base.specs.Tables.{nobody}
-use Rattle.surf_cotree.specs.Searches.{outside}
+use Rattle.surf_cotree.proofs.Common.{◌≡◌, ◌<◌, ◌≤◌, ◌-◌, true, arith, dual, face_count, edge_count, cells_of, length-set, nobody, outside}
 use Rattle.surf_cotree.proofs.Faces.{graph_is}
 use Rattle.surf_cotree.proofs.Leaves.{one_flag_less}
 use Rattle.surf_cotree.proofs.Marking.{face_in, edge_in, not_there, marking_begins, marking_goes_on}

@@ -1,6 +1,4 @@
-use Rattle.surf_surfaces.proofs.Common.{count_below, dual, face_count, cells_of}
-use Rattle.surf_cotree.specs.Searches.{outside}
-use Rattle.surf_cotree.specs.Marking.{IsMarking}
+use Rattle.surf_cotree.proofs.Common.{count_below, dual, face_count, cells_of, outside, IsMarking}
 use Rattle.surf_cotree.proofs.edges.mark_span.Given as goal
 
 abbrev pub invariant-loop-face : goal.invariant-loop-face

@@ -1,5 +1,4 @@
-use Rattle.std.proofs.Common.{◌≡◌, ◌<◌, ◌≤◌, ◌&&◌, ℕ, not}
-use Rattle.surf_cotree.specs.Searches.{flag}
+use Rattle.surf_cotree.proofs.Common.{◌≡◌, ◌<◌, ◌≤◌, ◌&&◌, ℕ, not, flag}
 use Rattle.surf_cotree.proofs.edges.unmark.Given as goal
 
 abbrev pub invariant-loop-edge : goal.invariant-loop-edge

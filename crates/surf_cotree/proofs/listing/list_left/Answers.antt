@@ -1,6 +1,4 @@
-use Rattle.surf_surfaces.proofs.Common.{◌≡◌, ◌≤◌, ◌+◌, ◌∙◌, ◌++◌, ◌∷◌, [], List, ℕ, true, false, ap, length, arith, sym, subst, filter, range_with_len}
-use Rattle.surf_cotree.specs.Searches.{is_unmarked}
-use Rattle.surf_signatures.proofs.Passing.{passing_few, passing_taken, passing_left}
+use Rattle.surf_cotree.proofs.Common.{◌≡◌, ◌≤◌, ◌+◌, ◌∙◌, ◌++◌, ◌∷◌, [], List, ℕ, true, false, ap, length, arith, sym, subst, filter, range_with_len, is_unmarked, passing_few, passing_taken, passing_left}
 use Rattle.surf_cotree.proofs.listing.list_left.Goals as goal
 use Rattle.surf_cotree.proofs.listing.list_left.Goals.{then-is_unmarked, else-is_unmarked}
 

@@ -1,5 +1,4 @@
-use Rattle.surf_surfaces.proofs.Common.{◌≡◌, ◌≤◌, vec_capacity, filter, range_with_len}
-use Rattle.surf_cotree.specs.Searches.{is_unmarked}
+use Rattle.surf_cotree.proofs.Common.{◌≡◌, ◌≤◌, vec_capacity, filter, range_with_len, is_unmarked}
 use Rattle.surf_cotree.proofs.listing.list_left.Given as goal
 
 abbrev pub invariant-loop-edge : goal.invariant-loop-edge

@@ -1,5 +1,4 @@
-use Rattle.surf_surfaces.proofs.Common.{◌≡◌, ℕ, ◌<◌, ◌&&◌, false, not, eqb, slice_index_or, length, any_below}
-use Rattle.surf_base.specs.Tables.{nobody, at}
+use Rattle.surf_cotree.proofs.Common.{◌≡◌, ℕ, ◌<◌, ◌&&◌, false, not, eqb, slice_index_or, length, any_below, nobody, at}
 use Rattle.surf_cotree.proofs.listing.mark_edges.Given as goal
 
 abbrev pub invariant-loop-f : goal.invariant-loop-f

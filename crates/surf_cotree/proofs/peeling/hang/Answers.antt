@@ -1,9 +1,5 @@
-use Rattle.std.proofs.Common.{◌≡◌, ◌<◌, ◌≤◌, ◌∙◌, ◌-◌, false, true, subst, arith, length, eq-eqb, ne_eqb}
+use Rattle.surf_cotree.proofs.Common.{◌≡◌, ◌<◌, ◌≤◌, ◌∙◌, ◌-◌, false, true, subst, arith, length, eq-eqb, ne_eqb, Graph, dual, cells_of, nobody, at, reached, IsHungBy}
 use Rattle.std.proofs.lemmas.Grind.{get_or_default_zero}
-use Rattle.surf_surfaces.proofs.Common.{Graph, dual, cells_of}
-use Rattle.surf_base.specs.Tables.{nobody, at}
-use Rattle.surf_cotree.specs.Searches.{reached}
-use Rattle.surf_cotree.specs.Peeling.{IsHungBy}
 use Rattle.surf_cotree.proofs.Faces.{graph_is}
 use Rattle.surf_cotree.proofs.HangingTurns.{leaf_edge_in, near_in, far_in, none_hung, depth_room, one_hung}
 use Rattle.surf_cotree.proofs.peeling.hang.Goals as goal

@@ -1,5 +1,4 @@
-use Rattle.surf_surfaces.proofs.Common.{ℕ, Bool, dual, cells_of}
-use Rattle.surf_cotree.specs.Peeling.{IsHungBy}
+use Rattle.surf_cotree.proofs.Common.{ℕ, Bool, dual, cells_of, IsHungBy}
 use Rattle.surf_cotree.proofs.peeling.hang.Given as goal
 
 abbrev pub invariant-loop-k : goal.invariant-loop-k

@@ -1,7 +1,4 @@
-use Rattle.surf_surfaces.proofs.Common.{◌≡◌, ◌<◌, ◌∙◌, ap, arith, edge_count}
-use Rattle.surf_mesh.specs.Links.{side_link}
-use Rattle.surf_mesh.proofs.LinkLaws.{side_edge_is}
-use Rattle.surf_cotree.specs.Searches.{outside}
+use Rattle.surf_cotree.proofs.Common.{◌≡◌, ◌<◌, ◌∙◌, ap, arith, edge_count, side_link, side_edge_is, outside}
 use Rattle.surf_cotree.proofs.peeling.is_bare.Goals as goal
 
 pub bounds-marks-index : goal.bounds-marks-index

@@ -1,6 +1,4 @@
-use Rattle.surf_surfaces.proofs.Common.{◌≡◌, length, arith, sym, subst, dual, cells_of, edge_count}
-use Rattle.surf_cotree.specs.Searches.{outside}
-use Rattle.surf_cotree.specs.Peeling.{IsPeeledBy}
+use Rattle.surf_cotree.proofs.Common.{◌≡◌, length, arith, sym, subst, dual, cells_of, edge_count, outside, IsPeeledBy}
 use Rattle.surf_cotree.proofs.Leaves.{taken_listed}
 use Rattle.surf_cotree.proofs.peeling.list_chain.Goals as goal
 

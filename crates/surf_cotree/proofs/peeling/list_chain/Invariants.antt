@@ -1,6 +1,4 @@
-use Rattle.surf_surfaces.proofs.Common.{ℕ, ◌<◌, ◌-◌, Bool, length, dual, cells_of, face_count}
-use Rattle.surf_cotree.specs.Searches.{outside}
-use Rattle.surf_cotree.specs.Peeling.{IsPeeledBy}
+use Rattle.surf_cotree.proofs.Common.{ℕ, ◌<◌, ◌-◌, Bool, length, dual, cells_of, face_count, outside, IsPeeledBy}
 use Rattle.surf_cotree.proofs.peeling.list_chain.Given as goal
 
 abbrev pub invariant-loop-hangs : goal.invariant-loop-hangs

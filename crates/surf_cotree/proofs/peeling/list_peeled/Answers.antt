@@ -1,5 +1,4 @@
-use Rattle.surf_surfaces.proofs.Common.{dual, cells_of}
-use Rattle.surf_cotree.specs.Searches.{outside}
+use Rattle.surf_cotree.proofs.Common.{dual, cells_of, outside}
 use Rattle.surf_cotree.proofs.Leaves.{peeled_none}
 use Rattle.surf_cotree.proofs.peeling.list_peeled.Goals as goal
 

@@ -1,6 +1,4 @@
-use Rattle.surf_surfaces.proofs.Common.{dual, cells_of}
-use Rattle.surf_cotree.specs.Searches.{outside}
-use Rattle.surf_cotree.specs.Peeling.{IsPeeledBy}
+use Rattle.surf_cotree.proofs.Common.{dual, cells_of, outside, IsPeeledBy}
 use Rattle.surf_cotree.proofs.peeling.list_peeled.Given as goal
 
 abbrev pub invariant-loop-face : goal.invariant-loop-face

@@ -1,6 +1,4 @@
-use Rattle.surf_surfaces.proofs.Common.{◌≡◌, ◌<◌, ◌∙◌, ◌+◌, ◌-◌, ℕ, true, false, length, arith, sym, ap, dual, cells_of, side_count}
-use Rattle.surf_mesh.specs.Links.{link_at, side_link}
-use Rattle.surf_cotree.specs.Searches.{outside}
+use Rattle.surf_cotree.proofs.Common.{◌≡◌, ◌<◌, ◌∙◌, ◌+◌, ◌-◌, ℕ, true, false, length, arith, sym, ap, dual, cells_of, side_count, link_at, side_link, outside}
 use Rattle.surf_cotree.proofs.Passing.{links, links_many, links_row, link_is}
 use Rattle.surf_cotree.proofs.Leaves.{only_skip, only_second, found_only}
 use Rattle.surf_cotree.proofs.peeling.only_side.Goals as goal

@@ -1,7 +1,4 @@
-use Rattle.std.specs.Option.{IfSome}
-use Rattle.surf_surfaces.proofs.Common.{range_with_len, side_count, ◌<◌, ◌≤◌, ◌-◌, map}
-use Rattle.surf_mesh.specs.Links.{link_at, side_link}
-use Rattle.surf_cotree.specs.Searches.{outside}
+use Rattle.surf_cotree.proofs.Common.{IfSome, range_with_len, side_count, ◌<◌, ◌≤◌, ◌-◌, map, link_at, side_link, outside}
 use Rattle.surf_cotree.proofs.Leaves.{IsOnlySoFar}
 use Rattle.surf_cotree.proofs.peeling.only_side.Given as goal
 

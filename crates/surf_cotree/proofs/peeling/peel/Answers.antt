@@ -1,5 +1,4 @@
-use Rattle.surf_surfaces.proofs.Common.{dual, cells_of}
-use Rattle.surf_cotree.specs.Searches.{outside}
+use Rattle.surf_cotree.proofs.Common.{dual, cells_of, outside}
 use Rattle.surf_cotree.proofs.Leaves.{peeled_to_first}
 use Rattle.surf_cotree.proofs.peeling.peel.Goals as goal
 

@@ -1,6 +1,4 @@
-use Rattle.surf_surfaces.proofs.Common.{ℕ, ◌<◌, Bool, count_below, dual, cells_of, face_count, edge_count}
-use Rattle.surf_cotree.specs.Searches.{outside}
-use Rattle.surf_cotree.specs.Peeling.{IsPeeledTo}
+use Rattle.surf_cotree.proofs.Common.{ℕ, ◌<◌, Bool, count_below, dual, cells_of, face_count, edge_count, outside, IsPeeledTo}
 use Rattle.surf_cotree.proofs.peeling.take_chain.Given as goal
 
 abbrev pub invariant-loop-hangs : goal.invariant-loop-hangs

@@ -1,7 +1,4 @@
-use Rattle.surf_surfaces.proofs.Common.{◌≢◌, ℕ, refl, subst, sym, arith, dual, cells_of}
-use Rattle.surf_mesh.specs.Links.{side_link}
-use Rattle.surf_cotree.specs.Searches.{outside}
-use Rattle.surf_cotree.specs.Peeling.{IsOnlyEdge}
+use Rattle.surf_cotree.proofs.Common.{◌≢◌, ℕ, refl, subst, sym, arith, dual, cells_of, side_link, outside, IsOnlyEdge}
 use Rattle.surf_cotree.proofs.peeling.take_leaf.Goals as goal
 
 pub returns : goal.returns

@@ -1,7 +1,4 @@
-use Rattle.surf_surfaces.proofs.Common.{◌≡◌, ◌<◌, ◌≤◌, ◌+◌, ◌-◌, ◌∙◌, ◌&&◌, not, true, false, length, arith, sym, subst, and_parts, false≢true, not-true, dual, cells_of, face_count, edge_count}
-use Rattle.surf_mesh.specs.Links.{link_at, IsRow}
-use Rattle.surf_base.specs.Tables.{nobody}
-use Rattle.surf_cotree.specs.Searches.{outside}
+use Rattle.surf_cotree.proofs.Common.{◌≡◌, ◌<◌, ◌≤◌, ◌+◌, ◌-◌, ◌∙◌, ◌&&◌, not, true, false, length, arith, sym, subst, and_parts, false≢true, not-true, dual, cells_of, face_count, edge_count, link_at, IsRow, nobody, outside}
 use Rattle.surf_cotree.proofs.Pairs.{link_in, link_more, link_skip, offered_all}
 use Rattle.surf_cotree.proofs.Passing.{links, links_many, links_row, link_is}
 use Rattle.surf_cotree.proofs.search.offer_neighbours.Given.{Over}

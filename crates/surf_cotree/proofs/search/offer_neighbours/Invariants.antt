@@ -1,6 +1,4 @@
-use Rattle.surf_surfaces.proofs.Common.{◌≤◌, ◌-◌, dual, cells_of}
-use Rattle.surf_mesh.specs.Links.{link_at}
-use Rattle.surf_cotree.specs.Searches.{outside}
+use Rattle.surf_cotree.proofs.Common.{◌≤◌, ◌-◌, dual, cells_of, link_at, outside}
 use Rattle.surf_cotree.proofs.Pairs.{IsOfferedSome}
 use Rattle.surf_cotree.proofs.Passing.{links}
 use Rattle.surf_cotree.proofs.search.offer_neighbours.Given as goal

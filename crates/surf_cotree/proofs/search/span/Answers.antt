@@ -1,7 +1,4 @@
-use Rattle.surf_surfaces.proofs.Common.{◌≡◌, ◌≢◌, ◌<◌, ◌≤◌, ◌+◌, ◌-◌, ◌∙◌, ℕ, true, eqb, length, arith, ap, sym, subst, set, refl, suc, Option, None, get_or-set_same, get_or-set_other, false≢true, joins, dual, count_below, face_count, cells_of}
-use Rattle.std.proofs.Math.ListN.{length-set, length-replicate}
-use Rattle.surf_base.specs.Tables.{nobody, at}
-use Rattle.surf_cotree.specs.Searches.{reached, outside, spanned_tree, IsWaiting}
+use Rattle.surf_cotree.proofs.Common.{◌≡◌, ◌≢◌, ◌<◌, ◌≤◌, ◌+◌, ◌-◌, ◌∙◌, ℕ, true, eqb, length, arith, ap, sym, subst, set, refl, suc, Option, None, get_or-set_same, get_or-set_other, false≢true, joins, dual, count_below, face_count, cells_of, length-set, length-replicate, nobody, at, reached, outside, spanned_tree, IsWaiting}
 use Rattle.surf_cotree.proofs.Pairs.{none_there}
 use Rattle.surf_cotree.proofs.Faces.{graph_is}
 use Rattle.surf_cotree.proofs.Growing.{first_count, first_only, prim_begins, depth_fits, turn_count, turn_keeps}

@@ -1,6 +1,4 @@
-use Rattle.surf_surfaces.proofs.Common.{◌≡◌, length, eqb, count_below, dual, face_count, cells_of}
-use Rattle.surf_base.specs.Tables.{nobody, at}
-use Rattle.surf_cotree.specs.Searches.{reached, outside, spanned_tree, IsPrim}
+use Rattle.surf_cotree.proofs.Common.{◌≡◌, length, eqb, count_below, dual, face_count, cells_of, nobody, at, reached, outside, spanned_tree, IsPrim}
 use Rattle.surf_cotree.proofs.search.span.Given as goal
 
 abbrev pub invariant-loop-face : goal.invariant-loop-face

@@ -1,10 +1,7 @@
-use Rattle.surf_surfaces.proofs.Common.{◌≡◌, ◌<◌, ◌∷◌, ℕ, List, reverse, sym, ap, ◌∙◌, subst, refl, arith, walk_signature}
-use Rattle.surf_classes.specs.CoverGraph.{set_count}
-use Rattle.surf_classes.proofs.ReadBack.{walk_set}
+use Rattle.surf_cotree.proofs.Common.{◌≡◌, ◌<◌, ◌∷◌, ℕ, List, reverse, sym, ap, ◌∙◌, subst, refl, arith, walk_signature, split_with}
+use Rattle.surf_cover.proofs.Common.{set_count, walk_set, distance_at}
 use Rattle.surf_classes.proofs.ChosenWalks.{null_choice_is_vertex}
 use Rattle.surf_surfaces.proofs.classes.SignatureLaws.{null_by_signature}
-use Rattle.surf_cotree.specs.Tables.{split_with}
-use Rattle.surf_cover.specs.Tables.{distance_at}
 use Rattle.surf_cover.proofs.Grown.{positive}
 use Rattle.surf_cover.proofs.Signed.{sets_are}
 use Rattle.surf_cover.proofs.Starts.{chosen_at}

@@ -1,7 +1,5 @@
-use Rattle.surf_surfaces.proofs.Common.{◌≡◌, ◌≤◌, ◌+◌, ◌*◌, ◌/◌, ◌%◌, ℕ, List, [], ◌∷◌, ◌++◌, slice_index, sym, ap, ◌∙◌, subst, add-zero, arith, div-mul-add, mod-mul-add, row_fits}
-use Rattle.surf_classes.specs.Cover.{IsReadTo}
-use Rattle.surf_classes.proofs.ReadBack.{tables_read_on}
-use Rattle.surf_cover.specs.Networks.{link_by, table_of}
+use Rattle.surf_cotree.proofs.Common.{◌≡◌, ◌≤◌, ◌+◌, ◌*◌, ◌/◌, ◌%◌, ℕ, List, [], ◌∷◌, ◌++◌, slice_index, sym, ap, ◌∙◌, subst, add-zero, arith, div-mul-add, mod-mul-add, row_fits}
+use Rattle.surf_cover.proofs.Common.{IsReadTo, tables_read_on, link_by, table_of}
 use Rattle.surf_cover.proofs.Covering.{some_set}
 use Rattle.surf_cover.proofs.Stepping.{step_at}
 use Rattle.surf_cover.proofs.reading.read_off.Goals as goal

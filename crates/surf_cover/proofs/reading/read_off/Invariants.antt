@@ -1,6 +1,5 @@
-use Rattle.surf_surfaces.proofs.Common.{◌≡◌, ℕ, ◌<◌, ◌*◌, ◌/◌, ◌%◌, List, ◌∷◌, slice_index, Split}
-use Rattle.surf_classes.specs.Cover.{IsReadTo}
-use Rattle.surf_cover.specs.Networks.{IsCertifiedBy, table_of}
+use Rattle.surf_cotree.proofs.Common.{◌≡◌, ℕ, ◌<◌, ◌*◌, ◌/◌, ◌%◌, List, ◌∷◌, slice_index, Split}
+use Rattle.surf_cover.proofs.Common.{IsReadTo, IsCertifiedBy, table_of}
 use Rattle.surf_cover.proofs.reading.read_off.Given as goal
 
 abbrev pub invariant-loop-node : goal.invariant-loop-node

@@ -1,11 +1,5 @@
-use Rattle.surf_surfaces.proofs.Common.{◌≡◌, ◌≢◌, ◌<◌, ◌≤◌, ◌+◌, ◌*◌, ℕ, List, length, slice_index, subst, sym, ap, ◌∙◌, arith, row_fits, edge_count}
-use Rattle.std.proofs.lemmas.Option.{none-some}
-use Rattle.surf_cotree.specs.Tables.{split_with}
-use Rattle.surf_tree.specs.Searches.{far}
-use Rattle.surf_cover.specs.Networks.{node_of}
-use Rattle.surf_cover.specs.Tables.{distance_at}
-use Rattle.surf_classes.specs.Cover.{IsSet}
-use Rattle.surf_cover.specs.Starts.{IsLesserEnd}
+use Rattle.surf_cotree.proofs.Common.{◌≡◌, ◌≢◌, ◌<◌, ◌≤◌, ◌+◌, ◌*◌, ℕ, List, length, slice_index, subst, sym, ap, ◌∙◌, arith, row_fits, edge_count, none-some, split_with}
+use Rattle.surf_cover.proofs.Common.{far, node_of, distance_at, IsSet, IsLesserEnd}
 use Rattle.surf_cover.proofs.Signed.{sets_are}
 use Rattle.surf_cover.proofs.Grown.{positive, signed_by, coverable, reaches_all}
 use Rattle.surf_cover.proofs.Distances.{signed_within}

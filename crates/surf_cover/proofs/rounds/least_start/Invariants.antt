@@ -1,6 +1,5 @@
-use Rattle.surf_surfaces.proofs.Common.{◌≡◌, ◌<◌, ◌≤◌, ◌*◌, ℕ, slice_index, IsSplit, Tree, cells_of, edge_count}
-use Rattle.surf_cotree.specs.Tables.{split_with}
-use Rattle.surf_cover.specs.Tables.{AreCoverTables}
+use Rattle.surf_cotree.proofs.Common.{◌≡◌, ◌<◌, ◌≤◌, ◌*◌, ℕ, slice_index, IsSplit, Tree, cells_of, edge_count, split_with}
+use Rattle.surf_cover.proofs.Common.{AreCoverTables}
 use Rattle.surf_cover.proofs.Best.{IsBestBelow}
 use Rattle.surf_cover.proofs.rounds.least_start.Given as goal
 

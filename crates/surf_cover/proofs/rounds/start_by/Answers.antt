@@ -1,8 +1,5 @@
-use Rattle.surf_surfaces.proofs.Common.{◌≡◌, ◌<◌, ◌≤◌, ◌+◌, ◌*◌, ◌/◌, ◌%◌, ℕ, List, length, bit_xor, subst, sym, ap, ◌∙◌, arith, inl, inr, cases_eq, cases_lt, numbers, div-mul-add, mod-mul-add, row_fits, add_zero}
-use Rattle.surf_base.specs.Tables.{at}
-use Rattle.surf_tree.specs.Searches.{far}
-use Rattle.surf_cover.specs.Tables.{distance_at}
-use Rattle.surf_cover.specs.Starts.{IsDivided, IsOnRound}
+use Rattle.surf_cotree.proofs.Common.{◌≡◌, ◌<◌, ◌≤◌, ◌+◌, ◌*◌, ◌/◌, ◌%◌, ℕ, List, length, bit_xor, subst, sym, ap, ◌∙◌, arith, inl, inr, cases_eq, cases_lt, numbers, div-mul-add, mod-mul-add, row_fits, add_zero, at}
+use Rattle.surf_cover.proofs.Common.{far, distance_at, IsDivided, IsOnRound}
 use Rattle.surf_cover.proofs.rounds.start_by.Goals as goal
 
 pub loop-node-init : goal.loop-node-init

@@ -1,6 +1,5 @@
-use Rattle.std.proofs.Common.{◌<◌, ◌≤◌, ◌/◌, ◌%◌, ℕ}
-use Rattle.surf_base.specs.Tables.{at}
-use Rattle.surf_cover.specs.Starts.{IsDivided, IsOnRound}
+use Rattle.surf_cotree.proofs.Common.{◌<◌, ◌≤◌, ◌/◌, ◌%◌, ℕ, at}
+use Rattle.surf_cover.proofs.Common.{IsDivided, IsOnRound}
 use Rattle.surf_cover.proofs.rounds.start_by.Given as goal
 
 -- the vertex is on such a round, and none of those before in the list is a lesser one that is

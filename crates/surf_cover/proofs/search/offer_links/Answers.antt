@@ -1,8 +1,5 @@
-use Rattle.surf_surfaces.proofs.Common.{◌≡◌, ◌≢◌, ◌<◌, ◌+◌, length, arith, set, Some, map, length-map}
-use Rattle.surf_heap.specs.Entries.{entry_of, lesser}
-use Rattle.surf_base.specs.Tables.{at}
-use Rattle.surf_tree.specs.Searches.{far}
-use Rattle.surf_tree.proofs.Offering.{link_of, item_in, link_more, link_skip}
+use Rattle.surf_cotree.proofs.Common.{◌≡◌, ◌≢◌, ◌<◌, ◌+◌, length, arith, set, Some, map, length-map, entry_of, lesser, at}
+use Rattle.surf_cover.proofs.Common.{far, link_of, item_in, link_more, link_skip}
 use Rattle.surf_cover.proofs.search.offer_links.Goals as goal
 use Rattle.surf_cover.proofs.search.offer_links.Goals.{then-distance-w, else-distance-w}
 

@@ -1,7 +1,5 @@
-use Rattle.std.proofs.Common.{map}
-use Rattle.surf_mesh.specs.Links.{link_at}
-use Rattle.surf_base.specs.Tables.{at}
-use Rattle.surf_tree.proofs.SearchWords.{IsOfferedSome}
+use Rattle.surf_cotree.proofs.Common.{map, link_at, at}
+use Rattle.surf_cover.proofs.Common.{IsOfferedSome}
 use Rattle.surf_cover.proofs.search.offer_links.Given as goal
 
 -- the links before have been offered

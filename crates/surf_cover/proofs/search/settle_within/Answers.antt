@@ -1,9 +1,6 @@
-use Rattle.surf_surfaces.proofs.Common.{◌≡◌, ◌<◌, ◌∙◌, ℕ, List, [], ◌∷◌, length, set, arith, sym, subst, eqb, length-append, count_below}
-use Rattle.std.proofs.Math.ListN.{length-set}
-use Rattle.surf_base.specs.Tables.{at}
-use Rattle.surf_tree.specs.Searches.{far, IsOffered}
-use Rattle.surf_tree.proofs.Settling.{search_begins}
-use Rattle.surf_tree.proofs.Offering.{all_free, first_offer, least_turn, one_less}
+use Rattle.surf_cotree.proofs.Common.{◌≡◌, ◌<◌, ◌∙◌, ℕ, List, [], ◌∷◌, length, set, arith, sym, subst, eqb, length-append, count_below, length-set, at}
+use Rattle.surf_cover.proofs.Common.{far, search_begins, all_free, first_offer, least_turn, one_less}
+use Rattle.surf_tree.specs.Searches.{IsOffered}
 use Rattle.surf_cover.proofs.Within.{none_listed, one_listed, within_ends}
 use Rattle.surf_cover.proofs.search.settle_within.Goals as goal
 

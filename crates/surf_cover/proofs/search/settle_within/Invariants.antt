@@ -1,8 +1,5 @@
-use Rattle.surf_surfaces.proofs.Common.{◌≡◌, ◌≤◌, ◌+◌, ℕ, length, eqb, vec_capacity, count_below}
-use Rattle.surf_base.specs.Tables.{at}
-use Rattle.surf_tree.specs.Searches.{far}
-use Rattle.surf_tree.proofs.SearchWords.{IsSearch}
-use Rattle.surf_cover.specs.Within.{AreListed}
+use Rattle.surf_cotree.proofs.Common.{◌≡◌, ◌≤◌, ◌+◌, ℕ, length, eqb, vec_capacity, count_below, at}
+use Rattle.surf_cover.proofs.Common.{far, IsSearch, AreListed}
 use Rattle.surf_cover.proofs.search.settle_within.Given as goal
 
 -- the state of the search, in which no settled node is past the radius

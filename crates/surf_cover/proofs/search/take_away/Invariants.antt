@@ -1,6 +1,5 @@
-use Rattle.std.proofs.Common.{◌≡◌, ◌≢◌, ◌<◌, ◌≤◌, ℕ, length}
-use Rattle.surf_base.specs.Tables.{at}
-use Rattle.surf_tree.specs.Searches.{far}
+use Rattle.surf_cotree.proofs.Common.{◌≡◌, ◌≢◌, ◌<◌, ◌≤◌, ℕ, length, at}
+use Rattle.surf_cover.proofs.Common.{far}
 use Rattle.surf_cover.proofs.search.take_away.Given as goal
 
 -- each node that still has a distance is listed further on

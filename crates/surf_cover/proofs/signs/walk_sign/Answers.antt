@@ -1,5 +1,4 @@
-use Rattle.surf_surfaces.proofs.Common.{suc, ◌≡◌, ◌+◌, ◌<◌, ◌∷◌, [], ℕ, List, length, get_or, drop, map, bit_xor, All, Contains, sym, ap, ◌∙◌, subst, arith, numbers, sum_of, edges, pair, pair_of, steps, edge_signature, walk_signature, edge_number, xor_zero_r, drop-cons, get_or_default, drop_all}
-use Rattle.surf_cotree.specs.Tables.{split_with}
+use Rattle.surf_cotree.proofs.Common.{suc, ◌≡◌, ◌+◌, ◌<◌, ◌∷◌, [], ℕ, List, length, get_or, drop, map, bit_xor, All, Contains, sym, ap, ◌∙◌, subst, arith, numbers, sum_of, edges, pair, pair_of, steps, edge_signature, walk_signature, edge_number, xor_zero_r, drop-cons, get_or_default, drop_all, split_with}
 use Rattle.surf_cover.proofs.Signed.{sign_is, sign_small, steps_on, all_first, all_others}
 use Rattle.surf_cover.proofs.signs.walk_sign.Goals as goal
 

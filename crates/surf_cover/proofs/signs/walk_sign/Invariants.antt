@@ -1,5 +1,4 @@
-use Rattle.surf_surfaces.proofs.Common.{◌≡◌, drop, bit_xor, All, Contains, IsSplit, Tree, cells_of, edges, pair_of, steps, walk_signature}
-use Rattle.surf_cotree.specs.Tables.{split_with}
+use Rattle.surf_cotree.proofs.Common.{◌≡◌, drop, bit_xor, All, Contains, IsSplit, Tree, cells_of, edges, pair_of, steps, walk_signature, split_with}
 use Rattle.surf_cover.proofs.signs.walk_sign.Given as goal
 
 -- with the steps that are still to come

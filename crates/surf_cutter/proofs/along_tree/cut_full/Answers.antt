@@ -1,6 +1,5 @@
-use Rattle.surf_surfaces.proofs.Common.{◌≡◌, ◌+◌, List, Bool, length, sym, subst, rules, IfOk-weaker, face_count, edge_count}
-use Rattle.surf_cutter.specs.Kinds.{full}
-use Rattle.surf_cutter.specs.Opened.{MarkedMesh, OpenMesh, IsHeld, IsChosenFor}
+use Rattle.surf_slit.proofs.Common.{◌≡◌, ◌+◌, List, Bool, length, sym, subst, rules, IfOk-weaker, face_count, edge_count}
+use Rattle.surf_cutter.proofs.Common.{full, MarkedMesh, OpenMesh, IsHeld, IsChosenFor}
 use Rattle.surf_cutter.proofs.Chosen.{full_counted}
 use Rattle.surf_cutter.proofs.along_tree.cut_full.Goals as goal
 

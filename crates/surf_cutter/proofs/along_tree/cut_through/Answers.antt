@@ -1,7 +1,5 @@
-use Rattle.surf_surfaces.proofs.Common.{◌≡◌, List, Bool, subst, rules, IfErr}
-use Rattle.surf_cutter.specs.declared.kind.CutFault.TheVariants.{Near}
-use Rattle.surf_cutter.specs.Kinds.{through}
-use Rattle.surf_cutter.specs.Opened.{MarkedMesh, IsNearFor}
+use Rattle.surf_slit.proofs.Common.{◌≡◌, List, Bool, subst, rules, IfErr}
+use Rattle.surf_cutter.proofs.Common.{Near, through, MarkedMesh, IsNearFor}
 use Rattle.surf_cutter.proofs.along_tree.cut_through.Goals as goal
 
 pub returns-clause-near : goal.returns-clause-near

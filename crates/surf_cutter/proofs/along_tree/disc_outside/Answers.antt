@@ -1,7 +1,5 @@
-use Rattle.surf_surfaces.proofs.Common.{◌≡◌, subst, IfErr}
-use Rattle.surf_cutter.specs.declared.kind.CutFault.TheVariants.{Near}
-use Rattle.surf_cutter.specs.Kinds.{kind_of}
-use Rattle.surf_cutter.specs.Opened.{MarkedMesh, IsNearFor}
+use Rattle.surf_slit.proofs.Common.{◌≡◌, subst, IfErr}
+use Rattle.surf_cutter.proofs.Common.{Near, kind_of, MarkedMesh, IsNearFor}
 use Rattle.surf_cutter.proofs.along_tree.disc_outside.Goals as goal
 
 pub returns-clause-near : goal.returns-clause-near

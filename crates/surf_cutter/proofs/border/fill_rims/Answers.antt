@@ -1,8 +1,5 @@
-use Rattle.surf_surfaces.proofs.Common.{◌≡◌, ◌<◌, ℕ, length, get_or, replicate, refl, inl, inr, ap, sym, ◌∙◌, subst, arith, get_or_default, length-set}
-use Rattle.std.proofs.Math.ListN.{set}
-use Rattle.surf_base.specs.Tables.{nobody}
-use Rattle.surf_cutter.specs.Boundary.{corners_of}
-use Rattle.surf_cutter.specs.Rims.{AreReaches, sides_of, with_reach}
+use Rattle.surf_slit.proofs.Common.{◌≡◌, ◌<◌, ℕ, length, get_or, replicate, refl, inl, inr, ap, sym, ◌∙◌, subst, arith, get_or_default, length-set, set}
+use Rattle.surf_cutter.proofs.Common.{nobody, corners_of, AreReaches, sides_of, with_reach}
 use Rattle.surf_cutter.proofs.BorderTables.{corners_in}
 use Rattle.surf_cutter.proofs.RimTables.{AreRimsTo}
 use Rattle.surf_cutter.proofs.Rims.{rims_none, rims_more, rims_done, sides_none, sides_size, sides_with, reaches_none, reaches_with}

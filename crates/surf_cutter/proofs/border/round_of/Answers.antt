@@ -1,6 +1,5 @@
-use Rattle.surf_surfaces.proofs.Common.{◌≡◌, ℕ, replicate, ap, sym, ◌∙◌, subst, arith, rules, with_items_is}
-use Rattle.surf_base.specs.Tables.{nobody}
-use Rattle.surf_cutter.specs.Rims.{AreRims, AreReaches, sides_of}
+use Rattle.surf_slit.proofs.Common.{◌≡◌, ℕ, replicate, ap, sym, ◌∙◌, subst, arith, rules, with_items_is}
+use Rattle.surf_cutter.proofs.Common.{nobody, AreRims, AreReaches, sides_of}
 use Rattle.surf_cutter.proofs.border.round_of.Goals as goal
 
 pub fill_rims-requires : goal.fill_rims-requires

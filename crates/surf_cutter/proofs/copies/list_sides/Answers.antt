@@ -1,5 +1,4 @@
-use Rattle.std.proofs.Common.{◌≡◌, ℕ, List, subst, rules}
-use Rattle.std.specs.List.Sorted.{IsPermutation}
+use Rattle.surf_slit.proofs.Common.{◌≡◌, ℕ, List, subst, rules, IsPermutation}
 use Rattle.surf_cutter.proofs.Sorted.{sorted_row}
 use Rattle.surf_cutter.proofs.copies.list_sides.Goals as goal
 

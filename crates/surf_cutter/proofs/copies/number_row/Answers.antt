@@ -1,7 +1,5 @@
-use Rattle.surf_surfaces.proofs.Common.{◌≡◌, ◌+◌, ◌<◌, ℕ, List, length, get_or, ap, sym, ◌∙◌, subst, inl, inr, arith, cases_eq, get_or_default}
-use Rattle.std.proofs.Math.ListN.{set}
-use Rattle.surf_base.specs.Tables.{nobody}
-use Rattle.surf_cutter.specs.Copies.{label_at}
+use Rattle.surf_slit.proofs.Common.{◌≡◌, ◌+◌, ◌<◌, ℕ, List, length, get_or, ap, sym, ◌∙◌, subst, inl, inr, arith, cases_eq, get_or_default, set}
+use Rattle.surf_cutter.proofs.Common.{nobody, label_at}
 use Rattle.surf_cutter.proofs.Numbered.{AreNumberedIn, numbered_start, numbered_done, numbered_again, numbered_new, place_few}
 use Rattle.surf_cutter.proofs.copies.number_row.Goals as goal
 

@@ -1,7 +1,5 @@
-use Rattle.surf_surfaces.proofs.Common.{◌≡◌, ◌+◌, ◌<◌, ℕ, List, length, get_or, ap, refl, sym, ◌∙◌, subst, inl, inr, arith, cases_eq, get_or_default, on_ok_weaker}
-use Rattle.std.proofs.Math.ListN.{set}
-use Rattle.surf_base.specs.Tables.{nobody}
-use Rattle.surf_cutter.specs.Copies.{label_at, AreNumberedTo}
+use Rattle.surf_slit.proofs.Common.{◌≡◌, ◌+◌, ◌<◌, ℕ, List, length, get_or, ap, refl, sym, ◌∙◌, subst, inl, inr, arith, cases_eq, get_or_default, on_ok_weaker, set}
+use Rattle.surf_cutter.proofs.Common.{nobody, label_at, AreNumberedTo}
 use Rattle.surf_cutter.proofs.OneLabel.{one_again, one_new}
 use Rattle.surf_cutter.proofs.Sorted.{sorted_few}
 use Rattle.surf_cutter.proofs.copies.number_vertex.Goals as goal

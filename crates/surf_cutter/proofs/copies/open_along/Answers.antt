@@ -1,7 +1,5 @@
-use Rattle.surf_surfaces.proofs.Common.{ℕ, List, Bool, IfOk-weaker}
-use Rattle.surf_opening.specs.ChosenCut.{AreInOrder}
-use Rattle.surf_opening.specs.Opening.{IsOpenedBy}
-use Rattle.surf_slit.specs.Labels.{IsUncut, AreLabels}
+use Rattle.surf_slit.proofs.Common.{ℕ, List, Bool, IfOk-weaker, IsOpenedBy, IsUncut, AreLabels}
+use Rattle.surf_cutter.proofs.Common.{AreInOrder}
 use Rattle.surf_cutter.proofs.copies.open_along.Goals as goal
 
 pub returns-clause-opened : goal.returns-clause-opened

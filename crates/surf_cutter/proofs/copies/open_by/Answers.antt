@@ -1,7 +1,5 @@
-use Rattle.surf_surfaces.proofs.Common.{◌≡◌, ◌≤◌, ◌++◌, [], ℕ, List, length, take, drop, ap, sym, ◌∙◌, subst, arith, Mesh, face_count, side_count, append-nil, drop_all, take_all}
-use Rattle.surf_soup.specs.Vertices.{all_corners}
-use Rattle.surf_cutter.specs.Copies.{AreCounted}
-use Rattle.surf_cutter.specs.Faces.{AreRowsOf, AreRenumberedTo}
+use Rattle.surf_slit.proofs.Common.{◌≡◌, ◌≤◌, ◌++◌, [], ℕ, List, length, take, drop, ap, sym, ◌∙◌, subst, arith, Mesh, face_count, side_count, append-nil, drop_all, take_all}
+use Rattle.surf_cutter.proofs.Common.{all_corners, AreCounted, AreRowsOf, AreRenumberedTo}
 use Rattle.surf_cutter.proofs.FaceTables.{AreCopied, rows_copied}
 use Rattle.surf_cutter.proofs.OpenedBy.{opened_by, in_order}
 use Rattle.surf_cutter.proofs.Sorted.{sorted_all, sorted_few}

@@ -1,6 +1,5 @@
-use Rattle.surf_surfaces.proofs.Common.{subst, IfOk, IfOk-weaker, Mesh}
-use Rattle.surf_cutter.specs.Kinds.{full}
-use Rattle.surf_cutter.specs.Opened.{IsOpenedInOrder, IsChosenFor}
+use Rattle.surf_slit.proofs.Common.{subst, IfOk, IfOk-weaker, Mesh}
+use Rattle.surf_cutter.proofs.Common.{full, IsOpenedInOrder, IsChosenFor}
 use Rattle.surf_cutter.proofs.Chosen.{chosen_opening}
 use Rattle.surf_cutter.proofs.cutting.open_full.Goals as goal
 use Rattle.surf_cutter.proofs.cutting.open_full.Goals.{After-open_bordered}

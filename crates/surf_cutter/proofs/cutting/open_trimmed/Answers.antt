@@ -1,6 +1,5 @@
-use Rattle.surf_surfaces.proofs.Common.{subst, IfOk, IfOk-weaker, Mesh}
-use Rattle.surf_cutter.specs.Kinds.{trimmed}
-use Rattle.surf_cutter.specs.Opened.{IsOpenedInOrder, IsChosenFor}
+use Rattle.surf_slit.proofs.Common.{subst, IfOk, IfOk-weaker, Mesh}
+use Rattle.surf_cutter.proofs.Common.{trimmed, IsOpenedInOrder, IsChosenFor}
 use Rattle.surf_cutter.proofs.Chosen.{chosen_opening}
 use Rattle.surf_cutter.proofs.cutting.open_trimmed.Goals as goal
 use Rattle.surf_cutter.proofs.cutting.open_trimmed.Goals.{After-open_bordered}

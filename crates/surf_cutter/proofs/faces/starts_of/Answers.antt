@@ -1,6 +1,5 @@
-use Rattle.surf_surfaces.proofs.Common.{◌≡◌, ◌+◌, ◌<◌, ◌∷◌, ◌++◌, [], ℕ, length, ap, sym, subst, ◌∙◌, arith, rules, face_count, face_at, first_side}
-use Rattle.surf_soup.proofs.HalfLaws.{spans}
-use Rattle.surf_cutter.specs.Faces.{AreStartsTo}
+use Rattle.surf_slit.proofs.Common.{◌≡◌, ◌+◌, ◌<◌, ◌∷◌, ◌++◌, [], ℕ, length, ap, sym, subst, ◌∙◌, arith, rules, face_count, face_at, first_side, spans}
+use Rattle.surf_cutter.proofs.Common.{AreStartsTo}
 use Rattle.surf_cutter.proofs.FaceTables.{starts_more}
 use Rattle.surf_cutter.proofs.faces.starts_of.Goals as goal
 

@@ -1,6 +1,5 @@
-use Rattle.std.proofs.Common.{◌≡◌, ◌<◌, ℕ, length, take}
-use Rattle.surf_cutter.specs.Kinds.{is_point}
-use Rattle.surf_cutter.specs.Trimming.{is_marked}
+use Rattle.surf_slit.proofs.Common.{◌≡◌, ◌<◌, ℕ, length, take}
+use Rattle.surf_cutter.proofs.Common.{is_point, is_marked}
 use Rattle.surf_cutter.proofs.taking.mark_points.Given as goal
 
 abbrev pub invariant-loop-point : goal.invariant-loop-point

@@ -1,6 +1,5 @@
-use Rattle.surf_surfaces.proofs.Common.{◌≡◌, ◌+◌, ◌∙◌, suc, false, true, get_or, ap, sym, arith, false≢true}
-use Rattle.surf_opening.specs.Laws.{cut_count}
-use Rattle.surf_cutter.specs.Trimming.{is_cut, is_marked}
+use Rattle.surf_slit.proofs.Common.{◌≡◌, ◌+◌, ◌∙◌, suc, false, true, get_or, ap, sym, arith, false≢true}
+use Rattle.surf_cutter.proofs.Common.{cut_count, is_cut, is_marked}
 use Rattle.surf_cutter.proofs.Trims.{count_taken}
 use Rattle.surf_cutter.proofs.Takes.{taken_none, taken_more, no_other_loose, begun_at, leaf_kept}
 use Rattle.surf_cutter.proofs.taking.take_from.Goals as goal

@@ -1,6 +1,5 @@
-use Rattle.surf_surfaces.proofs.Common.{◌<◌, ◌+◌}
-use Rattle.surf_opening.specs.Laws.{cut_count}
-use Rattle.surf_cutter.specs.Trimming.{is_cut, AreDegrees, IsTakenFrom}
+use Rattle.surf_slit.proofs.Common.{◌<◌, ◌+◌}
+use Rattle.surf_cutter.proofs.Common.{cut_count, is_cut, AreDegrees, IsTakenFrom}
 use Rattle.surf_cutter.proofs.Takes.{HasNoOtherLoose}
 use Rattle.surf_cutter.proofs.taking.take_from.Given as goal
 

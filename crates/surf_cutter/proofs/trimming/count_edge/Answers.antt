@@ -1,8 +1,5 @@
-use Rattle.surf_surfaces.proofs.Common.{◌≡◌, ◌+◌, ℕ, get_or, ap, ◌∙◌, subst, arith, ends}
-use Rattle.surf_surfaces.proofs.meshes.CellLaws.{ends_below}
-use Rattle.surf_soup.proofs.HalfLaws.{edges_few}
-use Rattle.surf_surfaces.proofs.meshes.DegreeLaws.{degrees_more, degrees_none, degree_few}
-use Rattle.surf_cutter.specs.Trimming.{is_cut}
+use Rattle.surf_slit.proofs.Common.{◌≡◌, ◌+◌, ℕ, get_or, ap, ◌∙◌, subst, arith, ends, ends_below, edges_few, degrees_more, degrees_none, degree_few}
+use Rattle.surf_cutter.proofs.Common.{is_cut}
 use Rattle.surf_cutter.proofs.trimming.count_edge.Goals as goal
 
 pub count_at-requires-clause-first : goal.count_at-requires-clause-first

@@ -1,5 +1,4 @@
-use Rattle.std.proofs.Common.{◌∙◌, sym, refl, inl, inr, arith, eqb-true}
-use Rattle.std.proofs.lemmas.Bool.{eqb-false}
+use Rattle.surf_slit.proofs.Common.{◌∙◌, sym, refl, inl, inr, arith, eqb-true, eqb-false}
 use Rattle.surf_cutter.proofs.Trims.{leaf_edge, end_counts, IsCutAt, cut_at, taken_back_at}
 use Rattle.surf_cutter.proofs.trimming.take_back.Goals as goal
 use Rattle.surf_cutter.proofs.trimming.take_back.Goals.{After-ends-u}

@@ -1,6 +1,5 @@
-use Rattle.std.proofs.Common.{◌≡◌, subst, arith}
-use Rattle.surf_soup.proofs.HalfLaws.{edges_few}
-use Rattle.surf_cutter.specs.Trimming.{HasNoLeafFrom}
+use Rattle.surf_slit.proofs.Common.{◌≡◌, subst, arith, edges_few}
+use Rattle.surf_cutter.proofs.Common.{HasNoLeafFrom}
 use Rattle.surf_cutter.proofs.Trims.{has_ended}
 use Rattle.surf_cutter.proofs.trimming.trim.Goals as goal
 

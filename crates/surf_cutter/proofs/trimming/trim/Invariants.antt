@@ -1,6 +1,5 @@
-use Rattle.std.proofs.Common.{◌≡◌}
-use Rattle.surf_opening.specs.Laws.{cut_count}
-use Rattle.surf_cutter.specs.Trimming.{is_cut, AreDegrees, IsTrimmedFrom, HasNoLeafFrom}
+use Rattle.surf_slit.proofs.Common.{◌≡◌}
+use Rattle.surf_cutter.proofs.Common.{cut_count, is_cut, AreDegrees, IsTrimmedFrom, HasNoLeafFrom}
 use Rattle.surf_cutter.proofs.trimming.trim.Given as goal
 
 abbrev pub invariant-loop-low : goal.invariant-loop-low

@@ -1,7 +1,6 @@
-use Rattle.std.proofs.Common.{◌≡◌, ◌<◌, ◌≤◌, ℕ, false, is_lt, nat_cmp, get_or, ap, sym, ◌∙◌, arith}
-use Rattle.std.proofs.lemmas.Bool.Decides.{nat_tests}
-use Rattle.surf_opening.specs.Laws.{cut_count}
-use Rattle.surf_cutter.specs.Trimming.{is_cut}
+use Rattle.surf_slit.proofs.Common.{◌≡◌, ◌<◌, ◌≤◌, ℕ, false, nat_cmp, get_or, ap, sym, ◌∙◌, arith, nat_tests}
+use Rattle.surf_cutter.proofs.Common.{cut_count, is_cut}
+use Rattle.std.proofs.Common.{is_lt}
 use Rattle.surf_cutter.proofs.Trims.{count_taken, no_other_left, trimmed_more}
 use Rattle.surf_cutter.proofs.trimming.trim_from.Goals as goal
 

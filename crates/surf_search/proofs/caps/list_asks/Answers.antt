@@ -1,7 +1,4 @@
-use Rattle.surf_surfaces.proofs.Common.{◌≡◌, ◌<◌, ◌^◌, All, List, min, slice_index, inl, inr, sym, ap, ◌∙◌, subst, arith, cases_eq, nat_tests, edge_count, All-push}
-use Rattle.surf_choice.specs.Candidates.{IsSumOfLength}
-use Rattle.surf_search.specs.declared.caps.Ask.{Ask}
-use Rattle.surf_search.specs.Rounds.{IsAsked}
+use Rattle.surf_search.proofs.Common.{◌≡◌, ◌<◌, ◌^◌, All, List, min, slice_index, inl, inr, sym, ap, ◌∙◌, subst, arith, cases_eq, nat_tests, edge_count, All-push, IsSumOfLength, Ask, IsAsked}
 use Rattle.surf_search.proofs.Asked.{sign_small}
 use Rattle.surf_search.proofs.Capping.{asks_same, asks_more}
 use Rattle.surf_search.proofs.Signed.{signs_long}

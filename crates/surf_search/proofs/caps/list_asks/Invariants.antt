@@ -1,5 +1,4 @@
-use Rattle.surf_surfaces.proofs.Common.{◌<◌, All, edge_count}
-use Rattle.surf_search.specs.Rounds.{AreAsks}
+use Rattle.surf_search.proofs.Common.{◌<◌, All, edge_count, AreAsks}
 use Rattle.surf_search.proofs.caps.list_asks.Given as goal
 
 abbrev pub invariant-loop-e : goal.invariant-loop-e

@@ -1,6 +1,4 @@
-use Rattle.std.proofs.Common.{◌≡◌, ◌<◌, ℕ, length, get_or}
-use Rattle.surf_search.specs.declared.caps.Ask.{Ask}
-use Rattle.surf_search.specs.Rounds.{AreNoLess, HasCappedEnd}
+use Rattle.surf_search.proofs.Common.{◌≡◌, ◌<◌, ℕ, length, get_or, Ask, AreNoLess, HasCappedEnd}
 use Rattle.surf_search.proofs.caps.raise_all.Given as goal
 
 abbrev pub invariant-loop-ask : goal.invariant-loop-ask

@@ -1,6 +1,4 @@
-use Rattle.surf_surfaces.proofs.Common.{◌≡◌, ◌<◌, List, All, sym, ◌∙◌, subst, arith, All-permutation, edge_count}
-use Rattle.surf_search.specs.declared.caps.Ask.{Ask}
-use Rattle.surf_search.specs.Rounds.{AreAsks, HasCappedEnd}
+use Rattle.surf_search.proofs.Common.{◌≡◌, ◌<◌, List, All, sym, ◌∙◌, subst, arith, All-permutation, edge_count, Ask, AreAsks, HasCappedEnd}
 use Rattle.surf_search.proofs.Capping.{asks_capped}
 use Rattle.surf_search.proofs.Signed.{signs_long}
 use Rattle.surf_search.proofs.Marked.{written_back}

@@ -1,7 +1,5 @@
-use Rattle.surf_surfaces.proofs.Common.{◌≡◌, ◌≢◌, slice_index, refl, sym, ◌∙◌, arith, nat_tests}
+use Rattle.surf_search.proofs.Common.{◌≡◌, ◌≢◌, slice_index, refl, sym, ◌∙◌, arith, nat_tests, degree_few, degrees_none, is_signed}
 use Rattle.surf_search.proofs.Marked.{ends_inside}
-use Rattle.surf_surfaces.proofs.meshes.DegreeLaws.{degree_few, degrees_none}
-use Rattle.surf_search.specs.Marks.{is_signed}
 use Rattle.surf_search.proofs.Counted.{degrees_raised, ends_apart, raised}
 use Rattle.surf_search.proofs.degrees.count_edge.Goals as goal
 

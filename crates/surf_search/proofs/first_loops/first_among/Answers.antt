@@ -1,6 +1,4 @@
-use Rattle.surf_surfaces.proofs.Common.{◌<◌, All, sym, subst, IfOk, IsSurface, ArePositive}
-use Rattle.surf_lengths.proofs.Positive.{lengths_positive}
-use Rattle.surf_search.specs.Found.{SurfaceTables, IsFirstAmong}
+use Rattle.surf_search.proofs.Common.{◌<◌, All, sym, subst, IfOk, IsSurface, ArePositive, lengths_positive, SurfaceTables, IsFirstAmong}
 use Rattle.surf_search.proofs.Signed.{signs_long}
 use Rattle.surf_search.proofs.first_loops.first_among.Goals as goal
 

@@ -1,6 +1,4 @@
-use Rattle.surf_surfaces.proofs.Common.{◌<◌, List, ℕ, refl, sym, ◌∙◌, subst, take_all}
-use Rattle.surf_surfaces.proofs.bases.FirstCycleLaws.{shortest_trees}
-use Rattle.surf_search.specs.Found.{SurfaceTables, IsFirstAmong, IsFirstAt}
+use Rattle.surf_search.proofs.Common.{◌<◌, List, ℕ, refl, sym, ◌∙◌, subst, take_all, shortest_trees, SurfaceTables, IsFirstAmong, IsFirstAt}
 use Rattle.surf_search.proofs.FirstFound.{first_begun, first_next}
 use Rattle.surf_search.proofs.first_loops.first_found.Goals as goal
 

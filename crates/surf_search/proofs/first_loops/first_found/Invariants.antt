@@ -1,5 +1,4 @@
-use Rattle.std.proofs.Common.{◌≡◌, take}
-use Rattle.surf_search.specs.Found.{IsFirstAmong}
+use Rattle.surf_search.proofs.Common.{◌≡◌, take, IsFirstAmong}
 use Rattle.surf_search.proofs.first_loops.first_found.Given as goal
 
 abbrev pub invariant-loop-v : goal.invariant-loop-v

@@ -1,7 +1,4 @@
-use Rattle.surf_surfaces.proofs.Common.{◌≡◌, ◌<◌, ◌+◌, ◌++◌, ℕ, Bool, List, length, take, drop, sym, ap, ◌∙◌, subst, arith, inl, inr, IsTrue, slice_index, cases_lt, get_or_default}
-use Rattle.surf_surfaces.proofs.bases.FirstCycleLaws.{shortest_trees}
-use Rattle.surf_search.specs.Found.{SurfaceTables, is_among}
-use Rattle.surf_search.specs.Passing.{is_marked, IsAhead, IsFirstIn}
+use Rattle.surf_search.proofs.Common.{◌≡◌, ◌<◌, ◌+◌, ◌++◌, ℕ, Bool, List, length, take, drop, sym, ap, ◌∙◌, subst, arith, inl, inr, IsTrue, slice_index, cases_lt, get_or_default, shortest_trees, SurfaceTables, is_among, is_marked, IsAhead, IsFirstIn}
 use Rattle.surf_search.proofs.Marked.{written_back}
 use Rattle.surf_search.proofs.PassedOver.{among_marked}
 use Rattle.surf_search.proofs.FirstFound.{first_fewer}

@@ -1,5 +1,4 @@
-use Rattle.surf_surfaces.proofs.Common.{◌≡◌, ◌<◌, ℕ, length, IsTrue, slice_index}
-use Rattle.surf_search.specs.Passing.{is_marked, IsAhead, IsFirstIn}
+use Rattle.surf_search.proofs.Common.{◌≡◌, ◌<◌, ℕ, length, IsTrue, slice_index, is_marked, IsAhead, IsFirstIn}
 use Rattle.surf_search.proofs.first_loops.first_passed.Given as goal
 
 abbrev pub invariant-loop-v : goal.invariant-loop-v

@@ -1,7 +1,4 @@
-use Rattle.std.proofs.Common.{◌<◌, ◌+◌, ◌*◌, ◌-◌, ◌/◌, ℕ, Option, Some, sym, subst, arith}
-use Rattle.surf_choice.specs.declared.candidate.Candidate.{Candidate}
-use Rattle.surf_search.specs.Found.{SurfaceTables, IsFirstAt}
-use Rattle.surf_search.specs.Passing.{AreMarkedNear, StaysFirst}
+use Rattle.surf_search.proofs.Common.{◌<◌, ◌+◌, ◌*◌, ◌-◌, ◌/◌, ℕ, Option, Some, sym, subst, arith, Candidate, SurfaceTables, IsFirstAt, AreMarkedNear, StaysFirst}
 use Rattle.surf_search.proofs.NearFirst.{first_scouted}
 use Rattle.surf_search.proofs.PassedOver.{base_marked}
 use Rattle.surf_search.proofs.first_loops.scout_first.Goals as goal

@@ -1,7 +1,4 @@
-use Rattle.surf_surfaces.proofs.Common.{ℕ, Bool, List, refl, sym, subst, IsTrue, Tree, with_vertex}
-use Rattle.surf_surfaces.proofs.bases.FirstCycleLaws.{shortest_trees}
-use Rattle.surf_search.specs.Found.{IsFirstAt, IsFirstOf}
-use Rattle.surf_search.specs.Passing.{is_marked}
+use Rattle.surf_search.proofs.Common.{ℕ, Bool, List, refl, sym, subst, IsTrue, Tree, with_vertex, shortest_trees, IsFirstAt, IsFirstOf, is_marked}
 use Rattle.surf_search.proofs.NearFirst.{ahead_first_in}
 use Rattle.surf_search.proofs.PassedOver.{marked_vertex}
 use Rattle.surf_search.proofs.FirstFound.{first_more, first_fewer}

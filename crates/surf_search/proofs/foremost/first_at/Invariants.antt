@@ -1,6 +1,4 @@
-use Rattle.std.proofs.Common.{◌≡◌, All, List}
-use Rattle.surf_choice.specs.declared.candidate.Signed.{Signed}
-use Rattle.surf_search.specs.Found.{reached_at, IsTold, first_from}
+use Rattle.surf_search.proofs.Common.{◌≡◌, All, List, Signed, reached_at, IsTold, first_from}
 use Rattle.surf_search.proofs.Firsts.{IsFirstListedAt}
 use Rattle.surf_search.proofs.foremost.first_at.Given as goal
 

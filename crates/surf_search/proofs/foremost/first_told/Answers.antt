@@ -1,5 +1,4 @@
-use Rattle.surf_surfaces.proofs.Common.{ℕ, List, ◌<◌, [], length, ap, refl, sym, subst, arith, All-nil}
-use Rattle.surf_search.specs.Found.{reached_at, IsTold}
+use Rattle.surf_search.proofs.Common.{ℕ, List, ◌<◌, [], length, ap, refl, sym, subst, arith, All-nil, reached_at, IsTold}
 use Rattle.surf_search.proofs.Numbered.{item_settled}
 use Rattle.surf_search.proofs.foremost.first_told.Goals as goal
 

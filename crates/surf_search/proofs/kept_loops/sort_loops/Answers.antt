@@ -1,5 +1,4 @@
-use Rattle.surf_surfaces.proofs.Common.{rules, IsNonDecreasingBy-from_sort_by_key}
-use Rattle.surf_choice.specs.Places.{order_of}
+use Rattle.surf_search.proofs.Common.{rules, IsNonDecreasingBy-from_sort_by_key, order_of}
 use Rattle.surf_search.proofs.kept_loops.sort_loops.Goals as goal
 
 pub returns-clause-sorted : goal.returns-clause-sorted

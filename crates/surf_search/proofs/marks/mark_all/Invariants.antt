@@ -1,6 +1,4 @@
-use Rattle.surf_surfaces.proofs.Common.{◌≡◌, ◌⊎◌, ℕ, ◌<◌, Contains, length, IsTrue, slice_index}
-use Rattle.surf_firsts.specs.Near.{AgreeOff}
-use Rattle.surf_search.specs.Passing.{is_marked, AreNoShorter, AreShut}
+use Rattle.surf_search.proofs.Common.{◌≡◌, ◌⊎◌, ℕ, ◌<◌, Contains, length, IsTrue, slice_index, AgreeOff, is_marked, AreNoShorter, AreShut}
 use Rattle.surf_search.proofs.marks.mark_all.Given as goal
 
 abbrev pub invariant-loop-v : goal.invariant-loop-v

@@ -1,5 +1,4 @@
-use Rattle.surf_surfaces.proofs.Common.{rules, IsNonDecreasingBy-from_sort_by_key}
-use Rattle.surf_search.specs.Marks.{bits_backwards}
+use Rattle.surf_search.proofs.Common.{rules, IsNonDecreasingBy-from_sort_by_key, bits_backwards}
 use Rattle.surf_search.proofs.marks.scatter.Goals as goal
 
 pub returns-clause-sorted : goal.returns-clause-sorted

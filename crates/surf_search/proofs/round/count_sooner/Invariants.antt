@@ -1,6 +1,4 @@
-use Rattle.std.proofs.Common.{◌≡◌, ◌<◌, ◌≤◌, ◌-◌, ℕ, false, length, slice_index_or}
-use Rattle.surf_choice.specs.declared.candidate.Signed.{Signed}
-use Rattle.surf_choice.specs.Places.{place_of, is_sought}
+use Rattle.surf_search.proofs.Common.{◌≡◌, ◌<◌, ◌≤◌, ◌-◌, ℕ, false, length, slice_index_or, Signed, place_of, is_sought}
 use Rattle.surf_search.proofs.round.count_sooner.Given as goal
 
 abbrev pub invariant-loop-k : goal.invariant-loop-k

@@ -1,12 +1,5 @@
-use Rattle.surf_surfaces.proofs.Common.{◌≡◌, ◌<◌, ◌≤◌, ◌++◌, ◌^◌, ◌-◌, ℕ, All, List, length, take, drop, get_or, false, sym, ap, ◌∙◌, subst, arith, on_ok_weaker, IsTrue, IsPermutation, All-permutation, All-take, get_or-take, length-take-le, Sorted, IsNonDecreasingBy}
-use Rattle.surf_surfaces.proofs.bases.ChoiceExists.{choice_exists}
-use Rattle.surf_surfaces.proofs.bases.FirstCycleLaws.{shortest_trees}
-use Rattle.surf_choice.specs.declared.candidate.Signed.{Signed}
-use Rattle.surf_choice.specs.Candidates.{independent_of, signed_earlier}
-use Rattle.surf_choice.specs.Places.{place_of, is_sought, order_of, stands_before}
-use Rattle.surf_choice.proofs.Limits.{sorted_by_number}
+use Rattle.surf_search.proofs.Common.{◌≡◌, ◌<◌, ◌≤◌, ◌++◌, ◌^◌, ◌-◌, ℕ, All, List, length, take, drop, get_or, false, sym, ap, ◌∙◌, subst, arith, on_ok_weaker, IsTrue, IsPermutation, All-permutation, All-take, get_or-take, length-take-le, Sorted, IsNonDecreasingBy, choice_exists, shortest_trees, Signed, independent_of, signed_earlier, place_of, is_sought, order_of, stands_before, sorted_by_number, AreFound}
 use Rattle.surf_z2.specs.Order.{merge}
-use Rattle.surf_search.specs.Found.{AreFound}
 use Rattle.surf_search.proofs.Capped.{found_sooner, sorted_front}
 use Rattle.surf_search.proofs.Marked.{written_back}
 use Rattle.surf_search.proofs.Searched.{found_permuted, found_short, found_small}

@@ -1,6 +1,4 @@
-use Rattle.surf_surfaces.proofs.Common.{◌≡◌, ℕ, ◌<◌, ◌++◌, ◌∷◌, [], List, All, length, sym, ap, ◌∙◌, subst, arith, All-permutation, All-push}
-use Rattle.std.specs.List.Sorted.{IsNonDecreasingBy}
-use Rattle.surf_search.specs.Rounds.{AreRising, fall_order}
+use Rattle.surf_search.proofs.Common.{◌≡◌, ℕ, ◌<◌, ◌++◌, ◌∷◌, [], List, All, length, sym, ap, ◌∙◌, subst, arith, All-permutation, All-push, IsNonDecreasingBy, AreRising, fall_order}
 use Rattle.surf_search.proofs.Capping.{rising_same, rising_more, rising_permuted}
 use Rattle.surf_search.proofs.Marked.{written_back}
 use Rattle.surf_search.proofs.round.list_rising.Goals as goal

@@ -1,5 +1,4 @@
-use Rattle.std.proofs.Common.{◌<◌, All, length}
-use Rattle.surf_search.specs.Rounds.{AreRising}
+use Rattle.surf_search.proofs.Common.{◌<◌, All, length, AreRising}
 use Rattle.surf_search.proofs.round.list_rising.Given as goal
 
 abbrev pub invariant-loop-v : goal.invariant-loop-v

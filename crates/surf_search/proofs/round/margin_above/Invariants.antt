@@ -1,5 +1,4 @@
-use Rattle.std.proofs.Common.{◌≡◌, ◌≢◌, ◌≤◌, ℕ, take}
-use Rattle.surf_search.specs.Rounds.{AreLongerOr}
+use Rattle.surf_search.proofs.Common.{◌≡◌, ◌≢◌, ◌≤◌, ℕ, take, AreLongerOr}
 use Rattle.surf_search.proofs.round.margin_above.Given as goal
 
 abbrev pub invariant-loop-signed : goal.invariant-loop-signed

@@ -1,11 +1,4 @@
-use Rattle.surf_surfaces.proofs.Common.{◌≡◌, ◌≢◌, ◌<◌, ◌≤◌, ◌-◌, ◌/◌, ◌^◌, ℕ, All, Bool, true, List, Option, length, set, sym, ap, ◌∙◌, subst, arith, ArePositive, IsTrue}
-use Rattle.surf_choice.specs.declared.candidate.Candidate.{Candidate}
-use Rattle.surf_choice.specs.declared.candidate.Signed.{Signed}
-use Rattle.surf_choice.specs.Places.{limit_of}
-use Rattle.surf_search.specs.Found.{SurfaceTables, AreFound, surface_of}
-use Rattle.surf_search.specs.Passing.{AreMarkedNear, is_marked, spare_of}
-use Rattle.surf_search.specs.Rounds.{AreLongerOr, IsBarring, IsCapped, IsKeptAt, KeepsInRound}
-use Rattle.surf_search.specs.Signing.{AreSigned}
+use Rattle.surf_search.proofs.Common.{◌≡◌, ◌≢◌, ◌<◌, ◌≤◌, ◌-◌, ◌/◌, ◌^◌, ℕ, All, Bool, true, List, Option, length, set, sym, ap, ◌∙◌, subst, arith, ArePositive, IsTrue, Candidate, Signed, limit_of, SurfaceTables, AreFound, surface_of, AreMarkedNear, is_marked, spare_of, AreLongerOr, IsBarring, IsCapped, IsKeptAt, KeepsInRound, AreSigned}
 use Rattle.surf_search.proofs.Barred.{barring_on}
 use Rattle.surf_search.proofs.Marked.{set_stays, written_back}
 use Rattle.surf_search.proofs.PassedOver.{base_marked}

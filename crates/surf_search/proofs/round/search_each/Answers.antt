@@ -1,8 +1,5 @@
-use Rattle.std.proofs.Common.{rules, Fits, w64}
-use Rattle.surf_surfaces.proofs.Common.{◌≡◌, ◌<◌, ◌≤◌, ◌^◌, ℕ, get_or, set, max, length, length-set, refl, sym, ap, ◌∙◌, subst, arith, inl, inr, cases_lt, get_or_default, IsTrue, or_left, ◌&&◌}
-use Rattle.surf_search.specs.Found.{SurfaceTables, surface_of}
-use Rattle.surf_search.specs.Passing.{is_marked}
-use Rattle.surf_search.specs.Rounds.{AreKeptUpTo, IsBarring, KeepsInRound, cap_at, fall_order, in_caps, in_round, is_within_cap}
+use Rattle.surf_search.proofs.Common.{rules, w64, ◌≡◌, ◌<◌, ◌≤◌, ◌^◌, ℕ, get_or, set, max, length, length-set, refl, sym, ap, ◌∙◌, subst, arith, inl, inr, cases_lt, get_or_default, IsTrue, or_left, ◌&&◌, SurfaceTables, surface_of, is_marked, AreKeptUpTo, IsBarring, KeepsInRound, cap_at, fall_order, in_caps, in_round, is_within_cap}
+use Rattle.std.proofs.Common.{Fits}
 use Rattle.surf_search.proofs.Capping.{no_less_on}
 use Rattle.surf_search.proofs.Rounded.{IsRaisedAt, caps_fall, raised_at, round_fewer, visited_caps}
 use Rattle.surf_search.proofs.round.search_each.Goals as goal

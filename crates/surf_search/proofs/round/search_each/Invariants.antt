@@ -1,6 +1,4 @@
-use Rattle.std.proofs.Common.{◌≡◌, ◌<◌, ◌≤◌, ℕ, length, get_or}
-use Rattle.surf_search.specs.Found.{surface_of}
-use Rattle.surf_search.specs.Rounds.{AreKeptUpTo, AreNoLess, IsBarring, cap_at, in_round}
+use Rattle.surf_search.proofs.Common.{◌≡◌, ◌<◌, ◌≤◌, ℕ, length, get_or, surface_of, AreKeptUpTo, AreNoLess, IsBarring, cap_at, in_round}
 use Rattle.surf_search.proofs.round.search_each.Given as goal
 
 abbrev pub invariant-loop-v : goal.invariant-loop-v

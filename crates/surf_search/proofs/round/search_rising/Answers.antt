@@ -1,9 +1,4 @@
-use Rattle.surf_surfaces.proofs.Common.{◌≡◌, ◌<◌, ◌≤◌, ℕ, All, Bool, false, List, replicate, sym, ap, ◌∙◌, subst, inl, inr, arith, All-contains, on_ok_weaker, IsTrue}
-use Rattle.std.specs.List.Sorted.{IsNonDecreasingBy}
-use Rattle.surf_lengths.proofs.Positive.{lengths_positive}
-use Rattle.surf_search.specs.Found.{surface_of}
-use Rattle.surf_search.specs.Passing.{is_marked}
-use Rattle.surf_search.specs.Rounds.{cap_at, fall_order}
+use Rattle.surf_search.proofs.Common.{◌≡◌, ◌<◌, ◌≤◌, ℕ, All, Bool, false, List, replicate, sym, ap, ◌∙◌, subst, inl, inr, arith, All-contains, on_ok_weaker, IsTrue, IsNonDecreasingBy, lengths_positive, surface_of, is_marked, cap_at, fall_order}
 use Rattle.surf_search.proofs.PassedOver.{none_marked}
 use Rattle.surf_search.proofs.Rounded.{round_begun}
 use Rattle.surf_search.proofs.Signed.{signs_long}

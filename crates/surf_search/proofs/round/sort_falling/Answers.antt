@@ -1,5 +1,4 @@
-use Rattle.surf_surfaces.proofs.Common.{rules, IsNonDecreasingBy-from_sort_by_key}
-use Rattle.surf_search.specs.Rounds.{fall_order}
+use Rattle.surf_search.proofs.Common.{rules, IsNonDecreasingBy-from_sort_by_key, fall_order}
 use Rattle.surf_search.proofs.round.sort_falling.Goals as goal
 
 pub returns-clause-sorted : goal.returns-clause-sorted

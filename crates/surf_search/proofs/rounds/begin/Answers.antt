@@ -1,7 +1,4 @@
-use Rattle.surf_surfaces.proofs.Common.{◌≡◌, ℕ, ◌<◌, ◌≤◌, Option, sym, subst, arith, refl}
-use Rattle.surf_choice.specs.declared.candidate.Candidate.{Candidate}
-use Rattle.surf_choice.specs.Places.{limit_of}
-use Rattle.surf_search.specs.Rounds.{IsCapped, IsKeptAt}
+use Rattle.surf_search.proofs.Common.{◌≡◌, ℕ, ◌<◌, ◌≤◌, Option, sym, subst, arith, refl, Candidate, limit_of, IsCapped, IsKeptAt}
 use Rattle.surf_search.proofs.Rounded.{begun_at}
 use Rattle.surf_search.proofs.Capping.{capped_all}
 use Rattle.surf_search.proofs.rounds.begin.Goals as goal

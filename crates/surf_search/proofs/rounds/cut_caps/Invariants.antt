@@ -1,5 +1,4 @@
-use Rattle.std.proofs.Common.{◌≡◌, ◌<◌, ◌≤◌, ℕ, length, get_or}
-use Rattle.surf_search.specs.Rounds.{cap_at}
+use Rattle.surf_search.proofs.Common.{◌≡◌, ◌<◌, ◌≤◌, ℕ, length, get_or, cap_at}
 use Rattle.surf_search.proofs.rounds.cut_caps.Given as goal
 
 abbrev pub invariant-loop-v : goal.invariant-loop-v

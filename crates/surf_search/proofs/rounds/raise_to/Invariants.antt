@@ -1,5 +1,4 @@
-use Rattle.std.proofs.Common.{◌≡◌, ◌<◌, ◌≤◌, ◌⊎◌, ℕ, length}
-use Rattle.surf_search.specs.Rounds.{cap_at}
+use Rattle.surf_search.proofs.Common.{◌≡◌, ◌<◌, ◌≤◌, ◌⊎◌, ℕ, length, cap_at}
 use Rattle.surf_search.proofs.rounds.raise_to.Given as goal
 
 abbrev pub invariant-loop-v : goal.invariant-loop-v

@@ -1,5 +1,4 @@
-use Rattle.std.proofs.Common.{ℕ, List, length, sym, ap, ◌∙◌, subst, arith}
-use Rattle.surf_search.specs.Rounds.{AreCapped}
+use Rattle.surf_search.proofs.Common.{ℕ, List, length, sym, ap, ◌∙◌, subst, arith, AreCapped}
 use Rattle.surf_search.proofs.Marked.{written_back}
 use Rattle.surf_search.proofs.rounds.raised_caps.Goals as goal
 

@@ -1,7 +1,4 @@
-use Rattle.surf_surfaces.proofs.Common.{◌≡◌, ◌<◌, ◌≤◌, ℕ, List, length, ◌∙◌, subst, arith}
-use Rattle.surf_lengths.proofs.Positive.{lengths_positive}
-use Rattle.surf_search.specs.Found.{surface_of}
-use Rattle.surf_search.specs.Rounds.{cap_at}
+use Rattle.surf_search.proofs.Common.{◌≡◌, ◌<◌, ◌≤◌, ℕ, List, length, ◌∙◌, subst, arith, lengths_positive, surface_of, cap_at}
 use Rattle.surf_search.proofs.Rounded.{round_raised}
 use Rattle.surf_search.proofs.rounds.run_round.Goals as goal
 

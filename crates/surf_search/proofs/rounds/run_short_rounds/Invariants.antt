@@ -1,6 +1,4 @@
-use Rattle.std.proofs.Common.{◌≡◌, ◌<◌, ◌≤◌, ℕ, length}
-use Rattle.surf_search.specs.Found.{surface_of}
-use Rattle.surf_search.specs.Rounds.{AreKeptUpTo, cap_at, in_caps}
+use Rattle.surf_search.proofs.Common.{◌≡◌, ◌<◌, ◌≤◌, ℕ, length, surface_of, AreKeptUpTo, cap_at, in_caps}
 use Rattle.surf_search.proofs.rounds.run_short_rounds.Given as goal
 
 abbrev pub invariant-loop-round : goal.invariant-loop-round

@@ -1,7 +1,4 @@
-use Rattle.std.proofs.Common.{◌≡◌, ℕ, List, replicate, sym, ap, ◌∙◌, subst, arith}
-use Rattle.surf_choice.specs.Candidates.{Chosen}
-use Rattle.surf_search.specs.Rounds.{AreKeptUpTo, cap_at, in_caps}
-use Rattle.surf_search.specs.Found.{SurfaceTables, surface_of}
+use Rattle.surf_search.proofs.Common.{◌≡◌, ℕ, List, replicate, sym, ap, ◌∙◌, subst, arith, Chosen, AreKeptUpTo, cap_at, in_caps, SurfaceTables, surface_of}
 use Rattle.surf_search.proofs.Capping.{zero_caps}
 use Rattle.surf_search.proofs.Marked.{written_back}
 use Rattle.surf_search.proofs.Rounded.{begun_none}

@@ -1,8 +1,4 @@
-use Rattle.surf_surfaces.proofs.Common.{◌≡◌, ◌∙◌, true, ap, sym, refl, subst, arith, get_or_default, Mesh, ends}
-use Rattle.surf_near.specs.declared.links.Link.{Link}
-use Rattle.surf_near.specs.Links.{AreLinksAt, link_in}
-use Rattle.surf_near.proofs.Linking.{item_there}
-use Rattle.surf_search.specs.Found.{reached_at, is_wanted, IsLinkOf}
+use Rattle.surf_search.proofs.Common.{◌≡◌, ◌∙◌, true, ap, sym, refl, subst, arith, get_or_default, Mesh, ends, Link, AreLinksAt, link_in, item_there, reached_at, is_wanted, IsLinkOf}
 use Rattle.surf_search.proofs.Passed.{link_of_row}
 use Rattle.surf_search.proofs.Told.{told_off, listed_first, listed_push, listed_same, listed_all}
 use Rattle.surf_search.proofs.told_loops.list_at.Goals as goal

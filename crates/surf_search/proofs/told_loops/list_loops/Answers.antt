@@ -1,5 +1,4 @@
-use Rattle.std.proofs.Common.{ℕ, List, ◌<◌, length, ap, sym, subst, arith}
-use Rattle.surf_search.specs.Found.{reached_at}
+use Rattle.surf_search.proofs.Common.{ℕ, List, ◌<◌, length, ap, sym, subst, arith, reached_at}
 use Rattle.surf_search.proofs.Numbered.{item_settled}
 use Rattle.surf_search.proofs.Told.{lists_more}
 use Rattle.surf_search.proofs.told_loops.list_loops.Goals as goal

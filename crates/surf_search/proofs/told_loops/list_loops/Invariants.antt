@@ -1,5 +1,4 @@
-use Rattle.std.proofs.Common.{All, ℕ, ◌<◌, slice_index}
-use Rattle.surf_search.specs.Found.{reached_at, IsTold, ListsAt}
+use Rattle.surf_search.proofs.Common.{All, ℕ, ◌<◌, slice_index, reached_at, IsTold, ListsAt}
 use Rattle.surf_search.proofs.told_loops.list_loops.Given as goal
 
 abbrev pub invariant-loop-v : goal.invariant-loop-v

@@ -1,5 +1,4 @@
-use Rattle.surf_surfaces.proofs.Common.{◌≡◌, ◌<◌, ◌≤◌, ℕ, slice_index_or}
-use Rattle.surf_choice.specs.declared.candidate.Signed.{Signed}
+use Rattle.surf_search.proofs.Common.{◌≡◌, ◌<◌, ◌≤◌, ℕ, slice_index_or, Signed}
 use Rattle.surf_search.proofs.walks.greatest_at.Given as goal
 
 abbrev pub invariant-loop-signed : goal.invariant-loop-signed

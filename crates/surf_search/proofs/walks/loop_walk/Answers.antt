@@ -1,7 +1,4 @@
-use Rattle.std.proofs.Common.{ℕ, ◌≡◌, ◌<◌, true, sym, ap, subst}
-use Rattle.surf_surfaces.proofs.meshes.CellLaws.{ends_in}
-use Rattle.surf_near.specs.Near.{is_near}
-use Rattle.surf_search.specs.Walks.{IsLoopWalk}
+use Rattle.surf_search.proofs.Common.{ℕ, ◌≡◌, ◌<◌, true, sym, ap, subst, ends_in, is_near, IsLoopWalk}
 use Rattle.surf_search.proofs.Walked.{near_listed}
 use Rattle.surf_search.proofs.Told.{links_positive}
 use Rattle.surf_search.proofs.walks.loop_walk.Goals as goal

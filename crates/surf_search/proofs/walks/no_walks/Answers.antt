@@ -1,5 +1,4 @@
-use Rattle.std.proofs.Common.{◌≡◌, ◌++◌, ◌∷◌, [], List, ℕ, replicate, ap, ◌∙◌, subst, arith}
-use Rattle.std.proofs.lemmas.List.{replicate_more}
+use Rattle.surf_search.proofs.Common.{◌≡◌, ◌++◌, ◌∷◌, [], List, ℕ, replicate, ap, ◌∙◌, subst, arith, replicate_more}
 use Rattle.surf_search.proofs.walks.no_walks.Goals as goal
 
 pub loop-preserved : goal.loop-preserved

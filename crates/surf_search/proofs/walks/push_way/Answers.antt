@@ -1,6 +1,4 @@
-use Rattle.std.proofs.Common.{◌≡◌, ◌≢◌, ◌∷◌, ◌++◌, List, ℕ, refl, sym, ap, ◌∙◌, arith, append-nil}
-use Rattle.surf_surfaces.proofs.Common.{nat_tests, way_up}
-use Rattle.surf_graphs.proofs.Turned.{way_goes_on}
+use Rattle.surf_search.proofs.Common.{◌≡◌, ◌≢◌, ◌∷◌, ◌++◌, List, ℕ, refl, sym, ap, ◌∙◌, arith, append-nil, nat_tests, way_up, way_goes_on}
 use Rattle.surf_search.proofs.Walked.{IsUp, up_near, up_done}
 use Rattle.surf_search.proofs.Told.{links_positive}
 use Rattle.surf_search.proofs.walks.push_way.Goals as goal

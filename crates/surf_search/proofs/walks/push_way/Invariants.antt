@@ -1,5 +1,4 @@
-use Rattle.surf_surfaces.proofs.Common.{◌≡◌, ◌<◌, true, ◌∷◌, ◌++◌, slice_index, way_up, Tree, IsShortestTree}
-use Rattle.surf_near.specs.Near.{is_near}
+use Rattle.surf_search.proofs.Common.{◌≡◌, ◌<◌, true, ◌∷◌, ◌++◌, slice_index, way_up, Tree, IsShortestTree, is_near}
 use Rattle.surf_search.proofs.walks.push_way.Given as goal
 
 -- what is listed, with what is still to come, is the whole way

@@ -1,5 +1,4 @@
-use Rattle.surf_surfaces.proofs.Common.{◌≡◌, length, get_or, refl, sym, ◌∙◌, subst, arith, eqb-true, eqb-false, get_or_default}
-use Rattle.surf_search.specs.Walks.{AreWritten, IsLoopWalk}
+use Rattle.surf_search.proofs.Common.{◌≡◌, length, get_or, refl, sym, ◌∙◌, subst, arith, eqb-true, eqb-false, get_or_default, AreWritten, IsLoopWalk}
 use Rattle.surf_search.proofs.Walked.{written_first, written_more, written_past}
 use Rattle.surf_search.proofs.walks.write_walks.Goals as goal
 use Rattle.surf_search.proofs.walks.write_walks.Goals.{then-eq+in_ok-walk, else-eq}

@@ -1,9 +1,4 @@
-use Rattle.surf_surfaces.proofs.Common.{◌≡◌, ◌+◌, ℕ, List, [], ◌∷◌, ◌++◌, length, Some, None, Ok, Err, sym, ◌∙◌, ap, arith, cond, ◌==◌, true, false, Bool, eq-eqb, ne_eqb, length_push, length-slice_split, count_by-le-length}
-use Rattle.surf_text.specs.Text.{is_line_end, words_of}
-use Rattle.surf_text.specs.Walks.{parts_of}
-use Rattle.surf_sew.specs.declared.copies.CopyFault.TheVariants.{CopyCount}
-use Rattle.surf_base.specs.Gives.{◌>>=◌}
-use Rattle.surf_sew.specs.Copies.{WordLine, word_lines_from, copies_among, copy_lines, origins_from, is_copy, origin_of, counted}
+use Rattle.surf_sew.proofs.Common.{◌≡◌, ◌+◌, ℕ, List, [], ◌∷◌, ◌++◌, length, Some, None, Ok, Err, sym, ◌∙◌, ap, arith, cond, ◌==◌, true, false, Bool, eq-eqb, ne_eqb, length_push, length-slice_split, count_by-le-length, is_line_end, words_of, parts_of, CopyCount, ◌>>=◌, WordLine, word_lines_from, copies_among, copy_lines, origins_from, is_copy, origin_of, counted}
 use Rattle.surf_sew.proofs.CopyLines.{with_origins, with_none, copy_line, bad_line, no_line}
 use Rattle.surf_sew.proofs.copies.read_copies.Goals as goal
 

@@ -1,7 +1,4 @@
-use Rattle.std.proofs.Common.{◌≡◌, ◌≤◌, ◌+◌, length}
-use Rattle.surf_text.specs.Text.{is_line_end}
-use Rattle.surf_text.specs.Walks.{parts_of}
-use Rattle.surf_sew.specs.Copies.{word_lines_from, copies_among, copy_lines, origins_from}
+use Rattle.surf_sew.proofs.Common.{◌≡◌, ◌≤◌, ◌+◌, length, is_line_end, parts_of, word_lines_from, copies_among, copy_lines, origins_from}
 use Rattle.surf_sew.proofs.CopyLines.{with_origins}
 use Rattle.surf_sew.proofs.copies.read_copies.Given as goal
 

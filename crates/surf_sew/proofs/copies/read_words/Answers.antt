@@ -1,7 +1,4 @@
-use Rattle.std.proofs.Common.{ℕ, Option, Some, sym, ◌∙◌, ap}
-use Rattle.surf_text.specs.Text.{whole}
-use Rattle.surf_text.specs.Walks.{TokenWalk}
-use Rattle.surf_sew.specs.Copies.{origin_at}
+use Rattle.surf_sew.proofs.Common.{ℕ, Option, Some, sym, ◌∙◌, ap, whole, TokenWalk, origin_at}
 use Rattle.surf_sew.proofs.CopyLines.{five_words}
 use Rattle.surf_sew.proofs.copies.read_words.Goals as goal
 

@@ -1,7 +1,4 @@
-use Rattle.surf_surfaces.proofs.Common.{◌≤◌, ◌+◌, ℕ, List, length, drop, sym, ◌∙◌, ap, arith, slice_split, position_or_len, take_rest}
-use Rattle.surf_text.specs.Text.{is_line_end, is_comment_sign}
-use Rattle.surf_text.proofs.Cuts.{found_is, not_found}
-use Rattle.surf_sew.specs.Copies.{word_lines_from, copies_among}
+use Rattle.surf_sew.proofs.Common.{◌≤◌, ◌+◌, ℕ, List, length, drop, sym, ◌∙◌, ap, arith, slice_split, position_or_len, take_rest, is_line_end, is_comment_sign, found_is, not_found, word_lines_from, copies_among}
 use Rattle.surf_sew.proofs.Skips.{none_left, copies_behind, lines_behind}
 use Rattle.surf_sew.proofs.copies.skip_lines.Goals as goal
 

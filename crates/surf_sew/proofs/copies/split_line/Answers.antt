@@ -1,6 +1,4 @@
-use Rattle.std.proofs.Common.{sym}
-use Rattle.surf_text.specs.Text.{is_line_end}
-use Rattle.surf_text.proofs.Cuts.{cut_at, cut_none}
+use Rattle.surf_sew.proofs.Common.{sym, is_line_end, cut_at, cut_none}
 use Rattle.surf_sew.proofs.copies.split_line.Goals as goal
 
 pub returns-in-Some : goal.returns-in-Some

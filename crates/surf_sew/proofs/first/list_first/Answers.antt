@@ -1,5 +1,4 @@
-use Rattle.std.proofs.Common.{◌≡◌, ◌+◌, ℕ, length, drop, ◌∙◌, ap, arith}
-use Rattle.surf_sew.specs.Sewing.{first_copy}
+use Rattle.surf_sew.proofs.Common.{◌≡◌, ◌+◌, ℕ, length, drop, ◌∙◌, ap, arith, first_copy}
 use Rattle.surf_sew.proofs.Firsts.{table_is}
 use Rattle.surf_sew.proofs.first.list_first.Goals as goal
 

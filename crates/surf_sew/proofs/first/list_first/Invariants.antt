@@ -1,5 +1,4 @@
-use Rattle.std.proofs.Common.{◌≡◌, ◌<◌, ◌+◌, ℕ, length, get_or, drop}
-use Rattle.surf_sew.specs.Sewing.{first_copy}
+use Rattle.surf_sew.proofs.Common.{◌≡◌, ◌<◌, ◌+◌, ℕ, length, get_or, drop, first_copy}
 use Rattle.surf_sew.proofs.first.list_first.Given as goal
 
 -- the least copies among those from one on

@@ -1,6 +1,4 @@
-use Rattle.surf_surfaces.proofs.Common.{◌≡◌, ℕ, List, [], length, get_or, not, sym, ◌∙◌, ap, arith, inl, inr, slice_index_or, bytes_eq, cases_lt, length-map-range_with_len}
-use Rattle.surf_off.proofs.FaceRows.{other_default}
-use Rattle.surf_sew.specs.Sewing.{first_copy, first_like}
+use Rattle.surf_sew.proofs.Common.{◌≡◌, ℕ, List, [], length, get_or, not, sym, ◌∙◌, ap, arith, inl, inr, slice_index_or, bytes_eq, cases_lt, length-map-range_with_len, other_default, first_copy, first_like}
 use Rattle.surf_sew.proofs.Gaps.{entry}
 use Rattle.surf_sew.proofs.Firsts.{like_few}
 use Rattle.surf_sew.proofs.Faults.{differs, line_here, no_line}

@@ -1,5 +1,4 @@
-use Rattle.surf_surfaces.proofs.Common.{ℕ, sym, ◌∙◌, ap, subst, arith, nat_lt, list_all}
-use Rattle.surf_sew.specs.Sewing.{HaveCopies}
+use Rattle.surf_sew.proofs.Common.{ℕ, sym, ◌∙◌, ap, subst, arith, nat_lt, list_all, HaveCopies}
 use Rattle.surf_sew.proofs.Gaps.{gap_few, gap_have, all_sewn, not_sewn, no_gap}
 use Rattle.surf_sew.proofs.sewing.count_origins.Goals as goal
 

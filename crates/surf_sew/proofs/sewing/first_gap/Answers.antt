@@ -1,5 +1,4 @@
-use Rattle.surf_surfaces.proofs.Common.{sym, ◌==◌}
-use Rattle.surf_text.proofs.Cuts.{found_is, none_is}
+use Rattle.surf_sew.proofs.Common.{sym, ◌==◌, found_is, none_is}
 use Rattle.surf_sew.proofs.sewing.first_gap.Goals as goal
 
 pub returns-in-Some : goal.returns-in-Some

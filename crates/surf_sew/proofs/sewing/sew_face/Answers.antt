@@ -1,8 +1,5 @@
-use Rattle.std.proofs.Common.{◌≡◌, ◌<◌, ◌+◌, ℕ, List, [], ◌∷◌, ◌++◌, true, false, length, get_or, set, take, sym, ◌∙◌, ap, subst, arith, eq-eqb}
-use Rattle.surf_surfaces.proofs.Common.{◌==◌, slice_index, list_any, ne_eqb, length-map, take_more}
-use Rattle.surf_off.proofs.Marks.{Marked, marked_more, not_before}
+use Rattle.surf_sew.proofs.Common.{◌≡◌, ◌<◌, ◌+◌, ℕ, List, [], ◌∷◌, ◌++◌, true, false, length, get_or, set, take, sym, ◌∙◌, ap, subst, arith, eq-eqb, ◌==◌, slice_index, list_any, ne_eqb, length-map, take_more, Marked, marked_more, not_before, sewn_face}
 use Rattle.surf_off.proofs.Repeats.{repeats_here, repeats_later, distinct_more, no_repeat}
-use Rattle.surf_sew.specs.Sewing.{sewn_face}
 use Rattle.surf_sew.proofs.Faults.{corner_is}
 use Rattle.surf_sew.proofs.sewing.sew_face.Goals as goal
 

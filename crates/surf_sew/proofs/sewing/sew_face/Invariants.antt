@@ -1,8 +1,4 @@
-use Rattle.std.proofs.Common.{◌≡◌, ◌≢◌, [], take, drop}
-use Rattle.std.specs.List.{AllPairs}
-use Rattle.surf_off.specs.Off.{first_repeat}
-use Rattle.surf_off.proofs.Marks.{Marked}
-use Rattle.surf_sew.specs.Sewing.{sewn_face}
+use Rattle.surf_sew.proofs.Common.{◌≡◌, ◌≢◌, [], take, drop, AllPairs, first_repeat, Marked, sewn_face}
 use Rattle.surf_sew.proofs.sewing.sew_face.Given as goal
 
 abbrev pub invariant-loop-c : goal.invariant-loop-c

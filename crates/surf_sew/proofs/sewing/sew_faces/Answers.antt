@@ -1,11 +1,4 @@
-use Rattle.surf_surfaces.proofs.Common.{◌≡◌, ◌<◌, ◌≤◌, ◌+◌, ℕ, List, [], ◌∷◌, ◌++◌, Option, Some, None, Ok, Err, length, get_or, take, drop, sym, ◌∙◌, ap, subst, arith, length-map, get_or-map, take_more, take_all, Mesh, IsFace}
-use Rattle.std.specs.Prelude.{◌≢◌, AllPairs, IfNone}
-use Rattle.std.proofs.lemmas.List.Sums.{sum_by_more_le}
-use Rattle.surf_off.specs.Off.{first_repeat}
-use Rattle.surf_off.proofs.Marks.{written_back}
-use Rattle.surf_sew.specs.declared.fault.SewFault.{SewFault}
-use Rattle.surf_sew.specs.declared.fault.SewFault.TheVariants.{FaceRepeat}
-use Rattle.surf_sew.specs.Sewing.{sewn_face, sewn_faces, unless}
+use Rattle.surf_sew.proofs.Common.{◌≡◌, ◌<◌, ◌≤◌, ◌+◌, ℕ, List, [], ◌∷◌, ◌++◌, Option, Some, None, Ok, Err, length, get_or, take, drop, sym, ◌∙◌, ap, subst, arith, length-map, get_or-map, take_more, take_all, Mesh, IsFace, ◌≢◌, AllPairs, IfNone, sum_by_more_le, first_repeat, written_back, SewFault, FaceRepeat, sewn_face, sewn_faces, unless}
 use Rattle.surf_sew.proofs.Faults.{sewn_is_face, sewn_sides, repeat_here, repeat_next, repeat_never, mesh_is}
 use Rattle.surf_sew.proofs.sewing.sew_faces.Goals as goal
 

@@ -1,5 +1,4 @@
-use Rattle.std.proofs.Common.{◌≡◌, ◌≤◌, ◌<◌, ℕ, length, get_or, take, drop}
-use Rattle.surf_sew.specs.Sewing.{sewn_faces, repeat_from}
+use Rattle.surf_sew.proofs.Common.{◌≡◌, ◌≤◌, ◌<◌, ℕ, length, get_or, take, drop, sewn_faces, repeat_from}
 use Rattle.surf_sew.proofs.sewing.sew_faces.Given as goal
 
 abbrev pub invariant-loop-f : goal.invariant-loop-f

@@ -1,7 +1,4 @@
-use Rattle.surf_surfaces.proofs.Common.{◌≡◌, ℕ, List, [], ◌++◌, get_or, refl, ◌∙◌, ap, subst, codes, slice_index_or, err_from_is_err_and}
-use Rattle.surf_text.specs.Pages.{Puts}
-use Rattle.surf_text.proofs.Writing.{loop_more, loop_stop, loop_done}
-use Rattle.surf_off.specs.Written.{lines_text, lines_at}
+use Rattle.surf_sew.proofs.Common.{◌≡◌, ℕ, List, [], ◌++◌, get_or, refl, ◌∙◌, ap, subst, codes, slice_index_or, err_from_is_err_and, Puts, loop_more, loop_stop, loop_done, lines_text, lines_at}
 use Rattle.surf_sew.proofs.write.write_copies.Goals as goal
 
 pub returns-in_err-write_line : goal.returns-in_err-write_line

@@ -1,6 +1,4 @@
-use Rattle.std.proofs.Common.{take, Ok}
-use Rattle.surf_text.specs.Pages.{Puts}
-use Rattle.surf_off.specs.Written.{lines_text, lines_at}
+use Rattle.surf_sew.proofs.Common.{take, Ok, Puts, lines_text, lines_at}
 use Rattle.surf_sew.proofs.write.write_copies.Given as goal
 
 abbrev pub invariant-loop-c : goal.invariant-loop-c

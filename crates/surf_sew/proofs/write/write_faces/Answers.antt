@@ -1,8 +1,4 @@
-use Rattle.surf_surfaces.proofs.Common.{◌≡◌, ◌<◌, ◌≤◌, ℕ, List, [], length, get_or, refl, ◌∙◌, ap, arith, zip, err_from_is_err_and, length-zip}
-use Rattle.surf_text.specs.Pages.{Puts}
-use Rattle.surf_text.proofs.Writing.{loop_more, loop_stop, loop_done}
-use Rattle.surf_off.specs.Written.{face_text, faces_text}
-use Rattle.surf_off.proofs.FaceRows.{get_or-zip}
+use Rattle.surf_sew.proofs.Common.{◌≡◌, ◌<◌, ◌≤◌, ℕ, List, [], length, get_or, refl, ◌∙◌, ap, arith, zip, err_from_is_err_and, length-zip, Puts, loop_more, loop_stop, loop_done, face_text, faces_text, get_or-zip}
 use Rattle.surf_sew.proofs.write.write_faces.Goals as goal
 
 pub returns-in_err-write_face : goal.returns-in_err-write_face

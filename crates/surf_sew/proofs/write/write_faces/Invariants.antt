@@ -1,6 +1,4 @@
-use Rattle.surf_surfaces.proofs.Common.{take, Ok, zip}
-use Rattle.surf_text.specs.Pages.{Puts}
-use Rattle.surf_off.specs.Written.{faces_text}
+use Rattle.surf_sew.proofs.Common.{take, Ok, zip, Puts, faces_text}
 use Rattle.surf_sew.proofs.write.write_faces.Given as goal
 
 abbrev pub invariant-loop-f : goal.invariant-loop-f

@@ -1,9 +1,4 @@
-use Rattle.surf_surfaces.proofs.Common.{◌≡◌, ◌<◌, ◌≤◌, ◌+◌, ◌-◌, ℕ, List, ◌++◌, length, take, drop, Ok, refl, sym, ◌∙◌, ap, subst, arith, err_from_is_err_and, length-map-range_with_len, take_at, length-take-le}
-use Rattle.std.specs.List.{All}
-use Rattle.surf_text.specs.Pages.{Puts}
-use Rattle.surf_text.proofs.Writing.{puts_more, puts_stop}
-use Rattle.surf_off.specs.Written.{lines_text, lines_at}
-use Rattle.surf_sew.specs.Sewing.{first_copy, first_copies}
+use Rattle.surf_sew.proofs.Common.{◌≡◌, ◌<◌, ◌≤◌, ◌+◌, ◌-◌, ℕ, List, ◌++◌, length, take, drop, Ok, refl, sym, ◌∙◌, ap, subst, arith, err_from_is_err_and, length-map-range_with_len, take_at, length-take-le, All, Puts, puts_more, puts_stop, lines_text, lines_at, first_copy, first_copies}
 use Rattle.surf_sew.proofs.Windows.{copies_few, more_lines, all_lines}
 use Rattle.surf_sew.proofs.write.write_lines.Goals as goal
 

@@ -1,7 +1,4 @@
-use Rattle.std.proofs.Common.{◌≤◌, ◌-◌, Ok}
-use Rattle.surf_text.specs.Pages.{Puts}
-use Rattle.surf_off.specs.Written.{lines_text}
-use Rattle.surf_sew.specs.Texts.{sewn_lines}
+use Rattle.surf_sew.proofs.Common.{◌≤◌, ◌-◌, Ok, Puts, lines_text, sewn_lines}
 use Rattle.surf_sew.proofs.write.write_lines.Given as goal
 
 abbrev pub invariant-loop-from : goal.invariant-loop-from

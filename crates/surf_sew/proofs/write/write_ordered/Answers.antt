@@ -1,9 +1,4 @@
-use Rattle.surf_surfaces.proofs.Common.{◌≡◌, ◌<◌, ◌+◌, ◌-◌, ℕ, List, ◌++◌, length, get_or, Ok, Err, refl, sym, ◌∙◌, subst, arith, err_from_is_err_and}
-use Rattle.surf_text.specs.Pages.{Puts}
-use Rattle.surf_text.proofs.Writing.{puts_more, puts_stop}
-use Rattle.surf_off.specs.Written.{lines_text, lines_at}
-use Rattle.surf_off.proofs.FaceRows.{other_default}
-use Rattle.surf_sew.specs.Sewing.{first_copies}
+use Rattle.surf_sew.proofs.Common.{◌≡◌, ◌<◌, ◌+◌, ◌-◌, ℕ, List, ◌++◌, length, get_or, Ok, Err, refl, sym, ◌∙◌, subst, arith, err_from_is_err_and, Puts, puts_more, puts_stop, lines_text, lines_at, other_default, first_copies}
 use Rattle.surf_sew.proofs.Windows.{one_copy, below_more, more_lines, all_lines}
 use Rattle.surf_sew.proofs.write.write_ordered.Goals as goal
 use Rattle.surf_sew.proofs.write.write_ordered.Goals.{then-v-next-2+in_ok-write_copies, else-v-next-2}

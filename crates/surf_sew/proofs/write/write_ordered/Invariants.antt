@@ -1,7 +1,4 @@
-use Rattle.std.proofs.Common.{◌<◌, ◌≤◌, ℕ, get_or, Ok}
-use Rattle.surf_text.specs.Pages.{Puts}
-use Rattle.surf_off.specs.Written.{lines_text}
-use Rattle.surf_sew.specs.Texts.{sewn_lines}
+use Rattle.surf_sew.proofs.Common.{◌<◌, ◌≤◌, ℕ, get_or, Ok, Puts, lines_text, sewn_lines}
 use Rattle.surf_sew.proofs.write.write_ordered.Given as goal
 
 abbrev pub invariant-loop-c : goal.invariant-loop-c

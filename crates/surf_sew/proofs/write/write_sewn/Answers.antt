@@ -1,10 +1,4 @@
-use Rattle.surf_surfaces.proofs.Common.{◌^◌, ℕ, List, ◌++◌, length, refl, subst, arith, zip, err_from_is_err_and, Mesh, edge_count}
-use Rattle.surf_text.specs.Pages.{Puts}
-use Rattle.surf_text.proofs.Writing.{puts_more, puts_stop}
-use Rattle.surf_off.specs.Off.{OffParts}
-use Rattle.surf_off.proofs.RereadMesh.{short_faces}
-use Rattle.surf_off.specs.Written.{head_text, lines_text, faces_text}
-use Rattle.surf_sew.specs.Texts.{sewn_lines, RereadsSewn}
+use Rattle.surf_sew.proofs.Common.{◌^◌, ℕ, List, ◌++◌, length, refl, subst, arith, zip, err_from_is_err_and, Mesh, edge_count, Puts, puts_more, puts_stop, OffParts, short_faces, head_text, lines_text, faces_text, sewn_lines, RereadsSewn}
 use Rattle.surf_sew.proofs.Rereads.{parts, sewn_again}
 use Rattle.surf_sew.proofs.write.write_sewn.Goals as goal
 use Rattle.surf_sew.proofs.write.write_sewn.Goals.{After-write_head}

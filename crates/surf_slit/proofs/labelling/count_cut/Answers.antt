@@ -1,5 +1,4 @@
-use Rattle.surf_surfaces.proofs.Common.{arith, count_few}
-use Rattle.surf_slit.specs.Place.{cut_behind}
+use Rattle.surf_slit.proofs.Common.{arith, count_few, cut_behind}
 use Rattle.surf_slit.proofs.labelling.count_cut.Goals as goal
 
 pub overflow_add-count : goal.overflow_add-count

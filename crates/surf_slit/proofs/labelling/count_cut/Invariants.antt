@@ -1,5 +1,4 @@
-use Rattle.surf_surfaces.proofs.Common.{◌≡◌, count_below}
-use Rattle.surf_slit.specs.Place.{cut_behind}
+use Rattle.surf_slit.proofs.Common.{◌≡◌, count_below, cut_behind}
 use Rattle.surf_slit.proofs.labelling.count_cut.Given as goal
 
 abbrev pub invariant-loop-k : goal.invariant-loop-k

@@ -1,5 +1,4 @@
-use Rattle.surf_surfaces.proofs.Common.{◌≡◌, ◌<◌, length, get_or, ◌∙◌, arith, get_or_default, count_few}
-use Rattle.surf_slit.specs.Place.{cut_behind}
+use Rattle.surf_slit.proofs.Common.{◌≡◌, ◌<◌, length, get_or, ◌∙◌, arith, get_or_default, count_few, cut_behind}
 use Rattle.surf_slit.proofs.labelling.label_runs.Goals as goal
 use Rattle.surf_slit.proofs.labelling.label_runs.Goals.{then-run-cuts, else-run-cuts}
 

@@ -1,6 +1,4 @@
-use Rattle.surf_surfaces.proofs.Common.{◌≡◌, ◌≢◌, ℕ, ◌+◌, ◌<◌, length, get_or, count_below}
-use Rattle.surf_slit.specs.Link.{run_of}
-use Rattle.surf_slit.specs.Place.{cut_behind}
+use Rattle.surf_slit.proofs.Common.{◌≡◌, ◌≢◌, ℕ, ◌+◌, ◌<◌, length, get_or, count_below, run_of, cut_behind}
 use Rattle.surf_slit.proofs.labelling.label_runs.Given as goal
 
 abbrev pub invariant-loop-k : goal.invariant-loop-k

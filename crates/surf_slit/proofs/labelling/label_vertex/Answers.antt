@@ -1,5 +1,4 @@
-use Rattle.surf_surfaces.proofs.Common.{◌≡◌, max, length, arith, count_below, count_few}
-use Rattle.surf_slit.specs.Place.{cut_behind}
+use Rattle.surf_slit.proofs.Common.{◌≡◌, max, length, arith, count_below, count_few, cut_behind}
 use Rattle.surf_slit.proofs.VertexLabels.{ring_few, labelled}
 use Rattle.surf_slit.proofs.labelling.label_vertex.Goals as goal
 

@@ -1,5 +1,4 @@
-use Rattle.std.proofs.Common.{◌≡◌, ◌∙◌, arith}
-use Rattle.surf_slit.specs.Labels.{IsLabelledAt}
+use Rattle.surf_slit.proofs.Common.{◌≡◌, ◌∙◌, arith, IsLabelledAt}
 use Rattle.surf_slit.proofs.VertexLabels.{below_few, labelled_more, labelled_all}
 use Rattle.surf_slit.proofs.slit.label_all.Goals as goal
 

@@ -1,5 +1,4 @@
-use Rattle.std.proofs.Common.{◌≡◌, ℕ, ◌<◌, length, false}
-use Rattle.surf_slit.specs.Place.{place, cut_behind}
+use Rattle.surf_slit.proofs.Common.{◌≡◌, ℕ, ◌<◌, length, false, place, cut_behind}
 use Rattle.surf_slit.proofs.splitting.next_cut.Given as goal
 
 abbrev pub invariant-loop-steps : goal.invariant-loop-steps

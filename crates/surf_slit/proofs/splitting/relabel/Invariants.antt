@@ -1,5 +1,4 @@
-use Rattle.std.proofs.Common.{◌≡◌, ◌≢◌, ℕ, ◌<◌, length, get_or}
-use Rattle.surf_slit.specs.Place.{place}
+use Rattle.surf_slit.proofs.Common.{◌≡◌, ◌≢◌, ℕ, ◌<◌, length, get_or, place}
 use Rattle.surf_slit.proofs.splitting.relabel.Given as goal
 
 abbrev pub invariant-loop-steps : goal.invariant-loop-steps

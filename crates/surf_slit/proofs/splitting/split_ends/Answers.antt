@@ -1,6 +1,4 @@
-use Rattle.std.proofs.Common.{List, false, ℕ, ap, ◌∙◌, subst, sym}
-use Rattle.std.proofs.Math.ListN.{set}
-use Rattle.surf_slit.specs.Labels.{AgreeAt}
+use Rattle.surf_slit.proofs.Common.{List, false, ℕ, ap, ◌∙◌, subst, sym, set, AgreeAt}
 use Rattle.surf_slit.proofs.Steps.{their_numbers}
 use Rattle.surf_slit.proofs.VertexLabels.{first_below, second_below, second_agrees, ends_split}
 use Rattle.surf_slit.proofs.splitting.split_ends.Goals as goal

@@ -1,5 +1,4 @@
-use Rattle.surf_treecheck.specs.First.{HoldsBelow}
-use Rattle.surf_treecheck.specs.Rows.{HasDual}
+use Rattle.surf_treecheck.proofs.Common.{HoldsBelow, HasDual}
 use Rattle.surf_treecheck.proofs.dual.first_dual.Given as goal
 
 -- all rows before are those of a tree of the faces

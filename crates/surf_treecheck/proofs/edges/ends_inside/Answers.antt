@@ -1,5 +1,4 @@
-use Rattle.std.proofs.Common.{◌<◌, ℕ, sym, subst}
-use Rattle.surf_surfaces.proofs.meshes.CellLaws.{surfaces_are_cells}
+use Rattle.surf_treecheck.proofs.Common.{◌<◌, ℕ, sym, subst, surfaces_are_cells}
 use Rattle.surf_treecheck.proofs.edges.ends_inside.Goals as goal
 
 pub returns-clause-inside : goal.returns-clause-inside

@@ -1,6 +1,4 @@
-use Rattle.surf_surfaces.proofs.Common.{◌≡◌, None, get_or, ap, sym, subst, ◌∙◌, arith, get_or_default}
-use Rattle.surf_validity.specs.Valid.{side_at}
-use Rattle.surf_treecheck.specs.Paths.{HasLink}
+use Rattle.surf_treecheck.proofs.Common.{◌≡◌, None, get_or, ap, sym, subst, ◌∙◌, arith, get_or_default, side_at, HasLink}
 use Rattle.surf_treecheck.proofs.FaceLinks.{links_more}
 use Rattle.surf_treecheck.proofs.links.link_faces.Goals as goal
 

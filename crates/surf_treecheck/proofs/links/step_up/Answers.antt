@@ -1,6 +1,4 @@
-use Rattle.surf_surfaces.proofs.Common.{◌≡◌, get_or, ap, sym, subst, ◌∙◌, arith, get_or_default}
-use Rattle.surf_validity.specs.Valid.{side_at}
-use Rattle.surf_treecheck.specs.Paths.{HasLink}
+use Rattle.surf_treecheck.proofs.Common.{◌≡◌, get_or, ap, sym, subst, ◌∙◌, arith, get_or_default, side_at, HasLink}
 use Rattle.surf_treecheck.proofs.FaceLinks.{step_is}
 use Rattle.surf_treecheck.proofs.links.step_up.Goals as goal
 

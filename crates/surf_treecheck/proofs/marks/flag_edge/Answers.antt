@@ -1,5 +1,4 @@
-use Rattle.std.proofs.Common.{subst}
-use Rattle.surf_treecheck.specs.Between.{IsEdgeBetween}
+use Rattle.surf_treecheck.proofs.Common.{subst, IsEdgeBetween}
 use Rattle.surf_treecheck.proofs.Flags.{flagged}
 use Rattle.surf_treecheck.proofs.marks.flag_edge.Goals as goal
 

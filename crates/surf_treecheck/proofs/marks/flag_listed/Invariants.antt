@@ -1,6 +1,4 @@
-use Rattle.surf_surfaces.proofs.Common.{take, edge_count}
-use Rattle.surf_validity.specs.Valid.{is_listed}
-use Rattle.surf_treecheck.specs.Split.{AreFlags}
+use Rattle.surf_treecheck.proofs.Common.{take, edge_count, is_listed, AreFlags}
 use Rattle.surf_treecheck.proofs.marks.flag_listed.Given as goal
 
 -- the flags of the pairs before

@@ -1,6 +1,4 @@
-use Rattle.surf_surfaces.proofs.Common.{any_below, edge_count}
-use Rattle.surf_validity.specs.Valid.{parent_at, leads_up}
-use Rattle.surf_treecheck.specs.Split.{AreFlags}
+use Rattle.surf_treecheck.proofs.Common.{any_below, edge_count, parent_at, leads_up, AreFlags}
 use Rattle.surf_treecheck.proofs.marks.flag_parents.Given as goal
 
 -- the flags of the vertices before

@@ -1,6 +1,4 @@
-use Rattle.surf_surfaces.proofs.Common.{any_below, edge_count}
-use Rattle.surf_validity.specs.Valid.{side_at, is_side}
-use Rattle.surf_treecheck.specs.Split.{AreFlags}
+use Rattle.surf_treecheck.proofs.Common.{any_below, edge_count, side_at, is_side, AreFlags}
 use Rattle.surf_treecheck.proofs.marks.flag_sides.Given as goal
 
 -- the flags of the faces before

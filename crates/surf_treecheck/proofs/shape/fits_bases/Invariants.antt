@@ -1,5 +1,4 @@
-use Rattle.surf_treecheck.specs.First.{HoldsBelow}
-use Rattle.surf_treecheck.specs.Shapes.{HasBase}
+use Rattle.surf_treecheck.proofs.Common.{HoldsBelow, HasBase}
 use Rattle.surf_treecheck.proofs.shape.fits_bases.Given as goal
 
 -- the bases before are their places

@@ -1,6 +1,4 @@
-use Rattle.surf_treecheck.specs.First.{HoldsBelow}
-use Rattle.surf_validity.specs.Bases.{tree_at}
-use Rattle.surf_validity.specs.Valid.{HasTreeRows}
+use Rattle.surf_treecheck.proofs.Common.{HoldsBelow, tree_at, HasTreeRows}
 use Rattle.surf_treecheck.proofs.shape.fits_trees.Given as goal
 
 -- the trees before have their rows

@@ -1,5 +1,4 @@
-use Rattle.surf_surfaces.proofs.Common.{◌≡◌, ℕ, sym, ap, ◌∙◌, subst, pair, ends}
-use Rattle.surf_treecheck.specs.Split.{IsLeastBadPair, lesser_of}
+use Rattle.surf_treecheck.proofs.Common.{◌≡◌, ℕ, sym, ap, ◌∙◌, subst, pair, ends, IsLeastBadPair, lesser_of}
 use Rattle.surf_treecheck.proofs.BadPairs.{stray_or_none, edge_or_stray, ends_ordered}
 use Rattle.surf_treecheck.proofs.split.first_split.Goals as goal
 

@@ -1,5 +1,4 @@
-use Rattle.std.proofs.Common.{◌+◌, take, sym, subst}
-use Rattle.surf_treecheck.specs.Split.{IsLeastStray}
+use Rattle.surf_treecheck.proofs.Common.{◌+◌, take, sym, subst, IsLeastStray}
 use Rattle.surf_treecheck.proofs.Strays.{next_stray}
 use Rattle.surf_treecheck.proofs.split.first_stray.Goals as goal
 

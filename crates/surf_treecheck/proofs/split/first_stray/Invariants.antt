@@ -1,5 +1,4 @@
-use Rattle.std.proofs.Common.{take}
-use Rattle.surf_treecheck.specs.Split.{IsLeastStray}
+use Rattle.surf_treecheck.proofs.Common.{take, IsLeastStray}
 use Rattle.surf_treecheck.proofs.split.first_stray.Given as goal
 
 -- the least of the pairs before

@@ -1,5 +1,4 @@
-use Rattle.surf_treecheck.specs.First.{HoldsBelow}
-use Rattle.surf_treecheck.specs.Split.{AreOne}
+use Rattle.surf_treecheck.proofs.Common.{HoldsBelow, AreOne}
 use Rattle.surf_treecheck.proofs.split.first_undivided.Given as goal
 
 -- each edge before is in just one

@@ -1,5 +1,4 @@
-use Rattle.surf_treecheck.specs.First.{HoldsBelow}
-use Rattle.surf_treecheck.specs.Rows.{HasDistance}
+use Rattle.surf_treecheck.proofs.Common.{HoldsBelow, HasDistance}
 use Rattle.surf_treecheck.proofs.tree.first_distance.Given as goal
 
 -- all before have the distances by their parents

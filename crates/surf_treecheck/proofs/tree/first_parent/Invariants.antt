@@ -1,5 +1,4 @@
-use Rattle.surf_treecheck.specs.First.{HoldsBelow}
-use Rattle.surf_treecheck.specs.Rows.{HasParent}
+use Rattle.surf_treecheck.proofs.Common.{HoldsBelow, HasParent}
 use Rattle.surf_treecheck.proofs.tree.first_parent.Given as goal
 
 -- all before have parents

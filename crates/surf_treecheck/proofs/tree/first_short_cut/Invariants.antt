@@ -1,5 +1,4 @@
-use Rattle.surf_validity.specs.Valid.{IsNoShortCut}
-use Rattle.surf_treecheck.specs.First.{HoldsBelow}
+use Rattle.surf_treecheck.proofs.Common.{IsNoShortCut, HoldsBelow}
 use Rattle.surf_treecheck.proofs.tree.first_short_cut.Given as goal
 
 -- no edge before is a short cut

@@ -1,5 +1,4 @@
-use Rattle.surf_treecheck.specs.First.{HoldsBelow}
-use Rattle.surf_treecheck.specs.TreeFaults.{HasDistances}
+use Rattle.surf_treecheck.proofs.Common.{HoldsBelow, HasDistances}
 use Rattle.surf_treecheck.proofs.trees.first_astray.Given as goal
 
 -- all distances in the trees before are those by the parents

@@ -1,5 +1,4 @@
-use Rattle.surf_treecheck.specs.First.{HoldsBelow}
-use Rattle.surf_treecheck.specs.TreeFaults.{HasParents}
+use Rattle.surf_treecheck.proofs.Common.{HoldsBelow, HasParents}
 use Rattle.surf_treecheck.proofs.trees.first_orphan.Given as goal
 
 -- all parents in the trees before are ones

@@ -1,6 +1,5 @@
-use Rattle.surf_surfaces.proofs.Common.{ℕ, List, Weighed, Split}
-use Rattle.surf_certcheck.specs.Covering.{HasFrame, IsCoveredIn}
-use Rattle.surf_treecheck.specs.First.{HoldsBelow}
+use Rattle.surf_treecheck.proofs.Common.{ℕ, List, Weighed, Split, HoldsBelow}
+use Rattle.surf_certcheck.proofs.Common.{HasFrame, IsCoveredIn}
 use Rattle.surf_certcheck.proofs.cover.SummedTree.first_uncovered.Given as goal
 
 -- the loops of the edges before are covered

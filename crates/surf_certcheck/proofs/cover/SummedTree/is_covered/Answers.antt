@@ -1,6 +1,5 @@
-use Rattle.surf_surfaces.proofs.Common.{◌≡◌, ◌<◌, ◌^◌, length, sym, subst, loop_walk, walk_signature, number}
-use Rattle.surf_validity.specs.Valid.{certified_tree}
-use Rattle.surf_certcheck.specs.Frames.{weighed_through}
+use Rattle.surf_treecheck.proofs.Common.{◌≡◌, ◌<◌, ◌^◌, length, sym, subst, loop_walk, walk_signature, number, certified_tree}
+use Rattle.surf_certcheck.proofs.Common.{weighed_through}
 use Rattle.surf_certcheck.proofs.Framing.{cover_tells, signature_small}
 use Rattle.surf_certcheck.proofs.cover.SummedTree.is_covered.Goals as goal
 

@@ -1,5 +1,4 @@
-use Rattle.surf_surfaces.proofs.Common.{◌≡◌, ◌∙◌, length, ap, arith, face_count}
-use Rattle.surf_validity.specs.Rows.{DualRows}
+use Rattle.surf_treecheck.proofs.Common.{◌≡◌, ◌∙◌, length, ap, arith, face_count, DualRows}
 use Rattle.surf_certcheck.proofs.heavier.Judge.deeper_first.Goals as goal
 use Rattle.surf_certcheck.proofs.heavier.Judge.deeper_first.Goals.{After-depth-depth}
 

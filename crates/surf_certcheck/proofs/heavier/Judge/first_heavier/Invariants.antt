@@ -1,5 +1,4 @@
-use Rattle.surf_validity.specs.Valid.{HasNoShorter}
-use Rattle.surf_treecheck.specs.First.{HoldsBelow}
+use Rattle.surf_treecheck.proofs.Common.{HasNoShorter, HoldsBelow}
 use Rattle.surf_certcheck.proofs.heavier.Judge.first_heavier.Given as goal
 
 -- no left edge before could be exchanged

@@ -1,6 +1,5 @@
-use Rattle.surf_surfaces.proofs.Common.{◌≡◌, ◌∙◌, ℕ, ap, subst, between, faces_of}
-use Rattle.surf_validity.specs.Valid.{dual_tree, loop_size}
-use Rattle.surf_certcheck.specs.Least.{IsShort, IsLeastIn}
+use Rattle.surf_treecheck.proofs.Common.{◌≡◌, ◌∙◌, ℕ, ap, subst, between, faces_of, dual_tree, loop_size}
+use Rattle.surf_certcheck.proofs.Common.{IsShort, IsLeastIn}
 use Rattle.surf_certcheck.proofs.LeastIn.{least_is_first}
 use Rattle.surf_certcheck.proofs.heavier.Judge.first_shorter.Goals as goal
 

@@ -1,9 +1,6 @@
-use Rattle.surf_surfaces.proofs.Common.{◌≡◌, ◌≢◌, ◌<◌, ◌∙◌, sym, subst, inl, inr, dual as faces, Tree, IsTree, cells_of, face_count}
-use Rattle.surf_validity.specs.Valid.{dual_tree}
-use Rattle.surf_validity.proofs.DualLaws.{dual_rows_are_tree}
-use Rattle.surf_certcheck.specs.Judging.{IsShortFor}
-use Rattle.surf_treecheck.specs.Paths.{IsStepUp}
-use Rattle.surf_certcheck.specs.Least.{IsLeastWith}
+use Rattle.surf_treecheck.proofs.Common.{◌≡◌, ◌≢◌, ◌<◌, ◌∙◌, sym, subst, inl, inr, Tree, IsTree, cells_of, face_count, dual_tree, dual_rows_are_tree, IsStepUp}
+use Rattle.surf_certcheck.proofs.Common.{IsShortFor, IsLeastWith}
+use Rattle.surf_surfaces.proofs.Common.{dual as faces}
 use Rattle.surf_certcheck.proofs.LeastIn.{IsLeastPassed, passed_none, passed_all, passed_more, not_root}
 use Rattle.surf_certcheck.proofs.heavier.Judge.least_between.Goals as goal
 use Rattle.surf_certcheck.proofs.heavier.Judge.least_between.Goals.{After-deeper_first-face}

@@ -1,6 +1,5 @@
-use Rattle.surf_surfaces.proofs.Common.{◌<◌, ◌+◌, face_count}
-use Rattle.surf_validity.specs.Valid.{dual_tree, depth_at}
-use Rattle.surf_certcheck.specs.Judging.{IsShortFor}
+use Rattle.surf_treecheck.proofs.Common.{◌<◌, ◌+◌, face_count, dual_tree, depth_at}
+use Rattle.surf_certcheck.proofs.Common.{IsShortFor}
 use Rattle.surf_certcheck.proofs.LeastIn.{IsLeastPassed}
 use Rattle.surf_certcheck.proofs.heavier.Judge.least_between.Given as goal
 

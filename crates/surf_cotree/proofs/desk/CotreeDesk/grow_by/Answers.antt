@@ -1,9 +1,4 @@
-use Rattle.surf_surfaces.proofs.Common.{◌≡◌, ◌≢◌, ◌<◌, ◌&&◌, ◌∙◌, ℕ, List, Bool, not, eqb, false, filter, get_or, length, arith, ap, sym, subst, inl, inr, range_with_len, cases_eq, any_below, Graph, dual, edge_count, face_count, cells_of, with_items_is, with_items}
-use Rattle.surf_surfaces.proofs.meshes.CellLaws.{surfaces_are_cells}
-use Rattle.surf_base.specs.Tables.{nobody, at}
-use Rattle.surf_cotree.specs.Tables.{CotreeTables, AreCotreeTables}
-use Rattle.surf_cotree.specs.Searches.{outside, spanned_tree, is_unmarked, IsHeaviestTree}
-use Rattle.surf_cotree.specs.Peeling.{IsPeeledBy, IsHungBy}
+use Rattle.surf_cotree.proofs.Common.{◌≡◌, ◌≢◌, ◌<◌, ◌&&◌, ◌∙◌, ℕ, List, Bool, not, eqb, false, filter, get_or, length, arith, ap, sym, subst, inl, inr, range_with_len, cases_eq, any_below, Graph, dual, edge_count, face_count, cells_of, with_items_is, with_items, surfaces_are_cells, nobody, at, CotreeTables, AreCotreeTables, outside, spanned_tree, is_unmarked, IsHeaviestTree, IsPeeledBy, IsHungBy}
 use Rattle.surf_cotree.proofs.Hanging.{hung_first, hung_all}
 use Rattle.surf_cotree.proofs.Tabled.{unmarked_join, grown_tables}
 use Rattle.surf_cotree.proofs.desk.CotreeDesk.grow_by.Given.{Over}

@@ -1,5 +1,4 @@
-use Rattle.std.proofs.Common.{◌≤◌, ap, sym, subst, length, arith}
-use Rattle.surf_cotree.specs.Tables.{CotreeTables}
+use Rattle.surf_cotree.proofs.Common.{◌≤◌, ap, sym, subst, length, arith, CotreeTables}
 use Rattle.surf_cotree.proofs.Tabled.{width_enough}
 use Rattle.surf_cotree.proofs.desk.CotreeDesk.sign.Goals as goal
 

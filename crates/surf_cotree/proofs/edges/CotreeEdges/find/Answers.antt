@@ -1,7 +1,4 @@
-use Rattle.surf_surfaces.proofs.Common.{ℕ, ◌≡◌, ◌<◌, ◌&&◌, ◌∙◌, List, Bool, not, filter, length, arith, ap, subst, range_with_len, dual, edge_count, cells_of, with_items, with_items_is}
-use Rattle.surf_cotree.specs.Searches.{flag, outside}
-use Rattle.surf_cotree.specs.Peeling.{IsPeeledTo}
-use Rattle.surf_cotree.specs.Marking.{HasMarking}
+use Rattle.surf_cotree.proofs.Common.{ℕ, ◌≡◌, ◌<◌, ◌&&◌, ◌∙◌, List, Bool, not, filter, length, arith, ap, subst, range_with_len, dual, edge_count, cells_of, with_items, with_items_is, flag, outside, IsPeeledTo, HasMarking}
 use Rattle.surf_cotree.proofs.MarkedTables.{edges_grown}
 use Rattle.surf_cotree.proofs.edges.CotreeEdges.find.Goals as goal
 

@@ -1,6 +1,5 @@
-use Rattle.surf_surfaces.proofs.Common.{◌≡◌, ◌<◌, ◌≤◌, ◌+◌, ◌*◌, ℕ, List, sym, ap, ◌∙◌, subst, arith, row_fits, Mesh}
-use Rattle.surf_cover.specs.Tables.{CoverTables}
-use Rattle.surf_cover.specs.Networks.{IsCoverable}
+use Rattle.surf_cotree.proofs.Common.{◌≡◌, ◌<◌, ◌≤◌, ◌+◌, ◌*◌, ℕ, List, sym, ap, ◌∙◌, subst, arith, row_fits, Mesh}
+use Rattle.surf_cover.proofs.Common.{CoverTables, IsCoverable}
 use Rattle.surf_cover.proofs.Covering.{searchable, some_set}
 use Rattle.surf_cover.proofs.desk.CoverDesk.grow_within.Goals as goal
 

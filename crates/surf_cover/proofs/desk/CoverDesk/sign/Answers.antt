@@ -1,6 +1,5 @@
-use Rattle.surf_surfaces.proofs.Common.{◌≡◌, ◌≤◌, ◌*◌, length, ap, ◌∙◌, subst, arith, edge_count}
-use Rattle.surf_surfaces.proofs.classes.ClassLaws.{some_vertex}
-use Rattle.surf_cover.specs.Tables.{CoverTables, AreCoverTables, sets_of}
+use Rattle.surf_cotree.proofs.Common.{◌≡◌, ◌≤◌, ◌*◌, length, ap, ◌∙◌, subst, arith, edge_count, some_vertex}
+use Rattle.surf_cover.proofs.Common.{CoverTables, AreCoverTables, sets_of}
 use Rattle.surf_cover.proofs.Grown.{sign_below}
 use Rattle.surf_cover.proofs.desk.CoverDesk.sign.Goals as goal
 

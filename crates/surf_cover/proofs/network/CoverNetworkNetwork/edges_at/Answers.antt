@@ -1,6 +1,5 @@
-use Rattle.surf_surfaces.proofs.Common.{◌/◌, ◌%◌, map, subst, slice_index, div_below, div-add-mod', mod_below, primal, cells_of}
-use Rattle.surf_mesh.specs.Links.{IsRow, edge_link}
-use Rattle.surf_cover.specs.Networks.{cover_by, link_by}
+use Rattle.surf_cotree.proofs.Common.{◌/◌, ◌%◌, map, subst, slice_index, div_below, div-add-mod', mod_below, primal, cells_of, IsRow, edge_link}
+use Rattle.surf_cover.proofs.Common.{cover_by, link_by}
 use Rattle.surf_cover.proofs.Covering.{row_up, some_set}
 use Rattle.surf_cover.proofs.network.CoverNetworkNetwork.edges_at.Goals as goal
 

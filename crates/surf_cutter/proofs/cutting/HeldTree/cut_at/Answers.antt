@@ -1,8 +1,5 @@
-use Rattle.surf_surfaces.proofs.Common.{◌≡◌, ◌≤◌, ◌<◌, ◌∙◌, ℕ, ap, sym, subst, arith, length, List, Bool, All, with_items_is, with_items}
-use Rattle.surf_opening.specs.Laws.{cut_count}
-use Rattle.surf_cutter.specs.Kinds.{through}
-use Rattle.surf_cutter.specs.Opened.{MarkedMesh, IsChosenCut, IsNearFor}
-use Rattle.surf_cutter.specs.Trimming.{is_cut, IsTakenTo}
+use Rattle.surf_slit.proofs.Common.{◌≡◌, ◌≤◌, ◌<◌, ◌∙◌, ℕ, ap, sym, subst, arith, length, List, Bool, All, with_items_is, with_items}
+use Rattle.surf_cutter.proofs.Common.{cut_count, through, MarkedMesh, IsChosenCut, IsNearFor, is_cut, IsTakenTo}
 use Rattle.surf_cutter.proofs.Takes.{through_is_chosen, through_is_near, counted_cut}
 use Rattle.surf_cutter.proofs.cutting.HeldTree.cut_at.Goals as goal
 use Rattle.surf_cutter.proofs.cutting.HeldTree.cut_at.Goals.{After-count_cut}

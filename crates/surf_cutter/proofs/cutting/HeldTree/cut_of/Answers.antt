@@ -1,8 +1,6 @@
-use Rattle.surf_surfaces.proofs.Common.{◌≡◌, ℕ, List, sym, subst, IfErr}
-use Rattle.surf_cutter.specs.declared.kind.CutFault.TheVariants.{Near}
+use Rattle.surf_slit.proofs.Common.{◌≡◌, ℕ, List, sym, subst, IfErr}
+use Rattle.surf_cutter.proofs.Common.{Near, through, kind_of, IsNearFor}
 use Rattle.surf_cutter.specs.declared.kind.CutKind.{CutKind}
-use Rattle.surf_cutter.specs.Kinds.{through, kind_of}
-use Rattle.surf_cutter.specs.Opened.{IsNearFor}
 use Rattle.surf_cutter.proofs.cutting.HeldTree.cut_of.Goals as goal
 
 pub returns-in-Through-clause-near : goal.returns-in-Through-clause-near

@@ -1,6 +1,5 @@
-use Rattle.std.proofs.Common.{◌∙◌, ap, sym, subst}
-use Rattle.surf_cutter.specs.Kinds.{full}
-use Rattle.surf_cutter.specs.Opened.{MarkedMesh, IsChosenCut}
+use Rattle.surf_slit.proofs.Common.{◌∙◌, ap, sym, subst}
+use Rattle.surf_cutter.proofs.Common.{full, MarkedMesh, IsChosenCut}
 use Rattle.surf_cutter.proofs.Chosen.{full_is_chosen}
 use Rattle.surf_cutter.proofs.cutting.HeldTree.full_cut.Goals as goal
 use Rattle.surf_cutter.proofs.cutting.HeldTree.full_cut.Goals.{After-turned_over-cut}

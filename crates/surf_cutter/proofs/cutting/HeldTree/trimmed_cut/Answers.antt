@@ -1,7 +1,5 @@
-use Rattle.surf_surfaces.proofs.Common.{◌≡◌, ◌∙◌, ap, sym, subst, arith, length, List, Bool, with_items_is, with_items}
-use Rattle.surf_cutter.specs.Kinds.{trimmed}
-use Rattle.surf_cutter.specs.Opened.{MarkedMesh, IsChosenCut}
-use Rattle.surf_cutter.specs.Trimming.{IsTrimmedFrom}
+use Rattle.surf_slit.proofs.Common.{◌≡◌, ◌∙◌, ap, sym, subst, arith, length, List, Bool, with_items_is, with_items}
+use Rattle.surf_cutter.proofs.Common.{trimmed, MarkedMesh, IsChosenCut, IsTrimmedFrom}
 use Rattle.surf_cutter.proofs.Chosen.{trimmed_is_chosen}
 use Rattle.surf_cutter.proofs.cutting.HeldTree.trimmed_cut.Goals as goal
 use Rattle.surf_cutter.proofs.cutting.HeldTree.trimmed_cut.Goals.{After-law_of_surface}

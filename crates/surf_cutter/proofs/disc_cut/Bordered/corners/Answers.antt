@@ -1,6 +1,5 @@
-use Rattle.surf_surfaces.proofs.Common.{◌≡◌, ◌<◌, ◌+◌, ◌-◌, ℕ, length, get_or, ap, sym, ◌∙◌, subst, arith, get_or_read, after, side_count}
-use Rattle.surf_opening.proofs.sides.Polygons.{same_pair}
-use Rattle.surf_cutter.specs.Boundary.{corners_of}
+use Rattle.surf_slit.proofs.Common.{◌≡◌, ◌<◌, ◌+◌, ◌-◌, ℕ, length, get_or, ap, sym, ◌∙◌, subst, arith, get_or_read, after, side_count, same_pair}
+use Rattle.surf_cutter.proofs.Common.{corners_of}
 use Rattle.surf_cutter.proofs.Rims.{same_total, in_table, after_in, corners_in_table}
 use Rattle.surf_cutter.proofs.disc_cut.Bordered.corners.Goals as goal
 

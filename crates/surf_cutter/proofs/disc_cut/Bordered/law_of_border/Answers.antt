@@ -1,6 +1,5 @@
-use Rattle.surf_surfaces.proofs.Common.{◌<◌, subst, arith, side_count, IsDisc}
-use Rattle.surf_base.specs.Tables.{nobody}
-use Rattle.surf_cutter.specs.Boundary.{HasPairedBorder}
+use Rattle.surf_slit.proofs.Common.{◌<◌, subst, arith, side_count, IsDisc}
+use Rattle.surf_cutter.proofs.Common.{nobody, HasPairedBorder}
 use Rattle.surf_cutter.proofs.Rims.{same_total}
 use Rattle.surf_cutter.proofs.disc_cut.Bordered.law_of_border.Goals as goal
 

@@ -1,6 +1,5 @@
-use Rattle.surf_surfaces.proofs.Common.{◌≡◌, ◌<◌, ℕ, length, get_or, sym, subst, get_or_read}
-use Rattle.surf_cutter.specs.Boundary.{IsLeastBorderSide}
-use Rattle.surf_cutter.specs.Opened.{mesh_of}
+use Rattle.surf_slit.proofs.Common.{◌≡◌, ◌<◌, ℕ, length, get_or, sym, subst, get_or_read}
+use Rattle.surf_cutter.proofs.Common.{IsLeastBorderSide, mesh_of}
 use Rattle.surf_cutter.proofs.BorderTables.{border_some, border_first}
 use Rattle.surf_cutter.proofs.disc_cut.Bordered.least.Goals as goal
 

@@ -1,6 +1,5 @@
-use Rattle.std.proofs.Common.{sym, subst}
-use Rattle.surf_cutter.specs.Boundary.{AreBorderSides}
-use Rattle.surf_cutter.specs.Opened.{mesh_of}
+use Rattle.surf_slit.proofs.Common.{sym, subst}
+use Rattle.surf_cutter.proofs.Common.{AreBorderSides, mesh_of}
 use Rattle.surf_cutter.proofs.disc_cut.Bordered.sides.Goals as goal
 
 pub returns : goal.returns

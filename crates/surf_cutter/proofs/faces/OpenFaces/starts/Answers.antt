@@ -1,6 +1,5 @@
-use Rattle.std.proofs.Common.{ℕ, List, sym, subst}
-use Rattle.surf_cutter.specs.Faces.{rows_from}
-use Rattle.surf_cutter.specs.Opened.{AreStarts}
+use Rattle.surf_slit.proofs.Common.{ℕ, List, sym, subst}
+use Rattle.surf_cutter.proofs.Common.{rows_from, AreStarts}
 use Rattle.surf_cutter.proofs.FaceTables.{row_count, row_starts}
 use Rattle.surf_cutter.proofs.faces.OpenFaces.starts.Goals as goal
 

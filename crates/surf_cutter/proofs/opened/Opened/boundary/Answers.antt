@@ -1,6 +1,5 @@
-use Rattle.std.proofs.Common.{rules}
-use Rattle.surf_cutter.specs.Boundary.{IsBoundary}
-use Rattle.surf_cutter.specs.Opened.{mesh_of}
+use Rattle.surf_slit.proofs.Common.{rules}
+use Rattle.surf_cutter.proofs.Common.{IsBoundary, mesh_of}
 use Rattle.surf_cutter.proofs.BoundaryOne.{boundary_one}
 use Rattle.surf_cutter.proofs.opened.Opened.boundary.Goals as goal
 

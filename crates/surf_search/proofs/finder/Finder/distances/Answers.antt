@@ -1,6 +1,4 @@
-use Rattle.surf_surfaces.proofs.Common.{◌≡◌, ℕ, ◌<◌, map, slice_index, refl, sym, subst, arith, IfOk, get_or_default, IfOk-weaker}
-use Rattle.surf_search.specs.Found.{SurfaceTables}
-use Rattle.surf_search.specs.Places.{AreDistances}
+use Rattle.surf_search.proofs.Common.{◌≡◌, ℕ, ◌<◌, map, slice_index, refl, sym, subst, arith, IfOk, get_or_default, IfOk-weaker, SurfaceTables, AreDistances}
 use Rattle.surf_search.proofs.Numbered.{settled_in}
 use Rattle.surf_search.proofs.Told.{links_positive, near_there, distances_are}
 use Rattle.surf_search.proofs.finder.Finder.distances.Goals as goal

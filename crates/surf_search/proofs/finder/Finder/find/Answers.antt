@@ -1,5 +1,4 @@
-use Rattle.surf_surfaces.proofs.Common.{◌<◌, sym, subst, on_ok_weaker}
-use Rattle.surf_search.specs.Found.{SurfaceTables, search_of, AreFound, AreTold}
+use Rattle.surf_search.proofs.Common.{◌<◌, sym, subst, on_ok_weaker, SurfaceTables, search_of, AreFound, AreTold}
 use Rattle.surf_search.proofs.Told.{links_positive, told_are_found}
 use Rattle.surf_search.proofs.finder.Finder.find.Goals as goal
 

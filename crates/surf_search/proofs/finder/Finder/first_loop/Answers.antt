@@ -1,5 +1,4 @@
-use Rattle.std.proofs.Common.{◌<◌, sym, subst}
-use Rattle.surf_search.specs.Found.{SurfaceTables, search_of, AreTold, IsFirstAt}
+use Rattle.surf_search.proofs.Common.{◌<◌, sym, subst, SurfaceTables, search_of, AreTold, IsFirstAt}
 use Rattle.surf_search.proofs.Told.{links_positive, told_are_found}
 use Rattle.surf_search.proofs.finder.Finder.first_loop.Goals as goal
 

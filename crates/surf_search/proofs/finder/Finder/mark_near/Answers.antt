@@ -1,6 +1,4 @@
-use Rattle.surf_surfaces.proofs.Common.{ℕ, ◌<◌, ◌⊎◌, Contains, All, List, refl, sym, ap, ◌∙◌, subst, IsTrue, get_or_default, Mesh}
-use Rattle.surf_search.specs.Found.{SurfaceTables}
-use Rattle.surf_search.specs.Passing.{is_marked, AreMarkedNear}
+use Rattle.surf_search.proofs.Common.{ℕ, ◌<◌, ◌⊎◌, Contains, All, List, refl, sym, ap, ◌∙◌, subst, IsTrue, get_or_default, Mesh, SurfaceTables, is_marked, AreMarkedNear}
 use Rattle.surf_search.proofs.Numbered.{settled_in}
 use Rattle.surf_search.proofs.Told.{links_positive, near_there}
 use Rattle.surf_search.proofs.PassedOver.{marked_near}

@@ -1,6 +1,4 @@
-use Rattle.surf_surfaces.proofs.Common.{◌≡◌, ◌+◌, ◌++◌, All, length, take, drop, refl, sym, ◌∙◌, subst, arith}
-use Rattle.surf_search.specs.Found.{SurfaceTables}
-use Rattle.surf_search.specs.Walks.{AreWrittenTo, IsMeasured}
+use Rattle.surf_search.proofs.Common.{◌≡◌, ◌+◌, ◌++◌, All, length, take, drop, refl, sym, ◌∙◌, subst, arith, SurfaceTables, AreWrittenTo, IsMeasured}
 use Rattle.surf_search.proofs.Marked.{written_back}
 use Rattle.surf_search.proofs.Walked.{none_written, all_written}
 use Rattle.surf_search.proofs.finder.Finder.walks.Goals as goal

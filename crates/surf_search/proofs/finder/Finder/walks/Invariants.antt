@@ -1,5 +1,4 @@
-use Rattle.std.proofs.Common.{◌≡◌}
-use Rattle.surf_search.specs.Walks.{AreWrittenTo}
+use Rattle.surf_search.proofs.Common.{◌≡◌, AreWrittenTo}
 use Rattle.surf_search.proofs.finder.Finder.walks.Given as goal
 
 abbrev pub invariant-loop-k : goal.invariant-loop-k

@@ -1,7 +1,4 @@
-use Rattle.surf_surfaces.proofs.Common.{◌≡◌, ◌<◌, ◌+◌, ◌/◌, [], length, get_or, get_or_default, eq-eqb, false≢true, List, ℕ, refl, sym, ap, ◌∙◌, subst, arith, on_ok_weaker}
-use Rattle.surf_near.specs.Near.{IsNear}
-use Rattle.surf_search.specs.Found.{SurfaceTables}
-use Rattle.surf_search.specs.Walks.{AreWritten, AreWrittenTo, IsMeasured}
+use Rattle.surf_search.proofs.Common.{◌≡◌, ◌<◌, ◌+◌, ◌/◌, [], length, get_or, get_or_default, eq-eqb, false≢true, List, ℕ, refl, sym, ap, ◌∙◌, subst, arith, on_ok_weaker, IsNear, SurfaceTables, AreWritten, AreWrittenTo, IsMeasured}
 use Rattle.surf_search.proofs.Told.{links_positive, near_there}
 use Rattle.surf_search.proofs.Walked.{ends_reached, written_from, written_there}
 use Rattle.surf_search.proofs.finder.Finder.write_from.Goals as goal

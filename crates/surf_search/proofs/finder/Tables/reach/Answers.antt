@@ -1,5 +1,4 @@
-use Rattle.surf_surfaces.proofs.Common.{◌<◌, refl, subst, get_or_default}
-use Rattle.surf_search.specs.Places.{radius_of}
+use Rattle.surf_search.proofs.Common.{◌<◌, refl, subst, get_or_default, radius_of}
 use Rattle.surf_search.proofs.Numbered.{settled_in}
 use Rattle.surf_search.proofs.Told.{links_positive, near_there}
 use Rattle.surf_search.proofs.finder.Tables.reach.Goals as goal

@@ -1,5 +1,4 @@
-use Rattle.std.proofs.Common.{◌≡◌, ◌≤◌, ◌+◌, length}
-use Rattle.surf_search.specs.Ways.{HasNone}
+use Rattle.surf_search.proofs.Common.{◌≡◌, ◌≤◌, ◌+◌, length, HasNone}
 use Rattle.surf_search.proofs.Numbered.{AreWaysTo}
 use Rattle.surf_search.proofs.ways.Ways.sum.Given as goal
 

@@ -1,6 +1,4 @@
-use Rattle.surf_surfaces.proofs.Common.{◌≡◌, ◌<◌, length, List, Bool, get_or, false, true, ℕ, ap, ◌∙◌, subst, sym, arith, get_or_default, length-set, same_lists, edge_count}
-use Rattle.std.proofs.Math.ListN.{set}
-use Rattle.surf_slit.specs.Labels.{AreLabels}
+use Rattle.surf_slit.proofs.Common.{◌≡◌, ◌<◌, length, List, Bool, get_or, false, true, ℕ, ap, ◌∙◌, subst, sym, arith, get_or_default, length-set, same_lists, edge_count, set, AreLabels}
 use Rattle.surf_slit.specs.Slit.{CutMesh}
 use Rattle.surf_slit.proofs.VertexLabels.{set_back}
 use Rattle.surf_slit.proofs.slit.Slit.cut_edge.Goals as goal

@@ -1,5 +1,4 @@
-use Rattle.surf_surfaces.proofs.Common.{◌≡◌, ◌<◌, length, replicate, false, ℕ, ap, ◌∙◌, refl, arith, rules, length-replicate, edge_count, side_count}
-use Rattle.surf_slit.specs.Labels.{corner_at}
+use Rattle.surf_slit.proofs.Common.{◌≡◌, ◌<◌, length, replicate, false, ℕ, ap, ◌∙◌, refl, arith, rules, length-replicate, edge_count, side_count, corner_at}
 use Rattle.surf_slit.proofs.Steps.{corner_below}
 use Rattle.surf_slit.proofs.VertexLabels.{vertices_are_labels}
 use Rattle.surf_slit.proofs.slit.Slit.start.Goals as goal

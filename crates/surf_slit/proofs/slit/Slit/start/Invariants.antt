@@ -1,5 +1,4 @@
-use Rattle.surf_surfaces.proofs.Common.{◌≡◌, ℕ, ◌<◌, length, get_or, side_count}
-use Rattle.surf_slit.specs.Labels.{corner_at}
+use Rattle.surf_slit.proofs.Common.{◌≡◌, ℕ, ◌<◌, length, get_or, side_count, corner_at}
 use Rattle.surf_slit.proofs.slit.Slit.start.Given as goal
 
 abbrev pub invariant-loop-v : goal.invariant-loop-v
