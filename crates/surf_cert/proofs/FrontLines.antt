@@ -12,12 +12,16 @@ unfolding Leaves
 onto_leaves x n line lines (Ok rows) same = same
 onto_leaves x n line lines (Err e) same = tt
 
+-- what a line says, and the lines behind it
+abbrev line_read : {A : Type 0} → ℕ → List TextLine → Option A → Read A
+line_read n lines x = ok_or x (Form n) >>= λ x. Ok (x, lines)
+
 next_leaves : {A : Type 0} (form : LineForm A) (lines : List TextLine) → Leaves 1 lines (next_of form lines)
 unfolding next_of Leaves
 next_leaves form [] = tt
 next_leaves {A} form (line ∷ lines) = at (form (tokens_of line.bytes))
   where
-    at : (x : Option A) → Leaves 1 (line ∷ lines) (ok_or x (Form line.number) >>= λ x. Ok (x, lines))
+    at : (x : Option A) → Leaves 1 (line ∷ lines) (line_read line.number lines x)
     at None = tt
     at (Some x) = refl
 
@@ -27,7 +31,7 @@ rows_leave form zero lines = refl
 rows_leave form (suc n) [] = tt
 rows_leave {A} form (suc n) (line ∷ lines) = at (form (tokens_of line.bytes)) (rows_leave form n lines)
   where
-    at : (x : Option A) → Leaves n lines (rows_of form n lines) → Leaves (suc n) (line ∷ lines) ((ok_or x (Form line.number) >>= λ x. Ok (x, lines)) >>= λ x. onto_rows x.0 (rows_of form n x.1))
+    at : (x : Option A) → Leaves n lines (rows_of form n lines) → Leaves (suc n) (line ∷ lines) (line_read line.number lines x >>= λ x. onto_rows x.0 (rows_of form n x.1))
     at None same = tt
     at (Some x) same = onto_leaves x n line lines (rows_of form n lines) same
 
