@@ -21,6 +21,7 @@ use Rattle.surf_texts.specs.DistanceTexts.{distances_text}
 use Rattle.surf_sew.specs.Texts.{sewn_text}
 use Rattle.surf_classes.proofs.ChosenEvidence.{class_evidence_is_one}
 use Rattle.surf_answers.specs.Confirming.{JudgesEvidence}
+use Rattle.surf_texts.specs.EvidenceLines.{wrong_line}
 use Rattle.surf_classes.proofs.ChosenWalks.{chosen_walk_is_one}
 use Rattle.surf_answers.specs.ShortestWalk.{GivesShortestWalk}
 use Rattle.surf_run.proofs.StepLaws.{HasOneOutcome, IsOne, one_told, one_end, one_result, one_surface_of}
@@ -130,10 +131,13 @@ one_evidence_text bytes = one_result (refused_by evidence_cause (evidence_in byt
 -- right evidence has no fault
 pub one_judged_evidence : (mesh : Mesh) (walk : List ℕ) (evidence : Evidence) → HasOneOutcome (JudgesEvidence mesh walk evidence)
 one_judged_evidence mesh walk evidence o p (inl x) (inl y) = x.1 ∙ sym y.1
-one_judged_evidence mesh walk evidence o p (inl x) (inr y) = absurd (y.0 x.0)
-one_judged_evidence mesh walk evidence o p (inr x) (inl y) = absurd (x.0 y.0)
+one_judged_evidence mesh walk evidence o p (inl x) (inr y) = absurd (y.excludes x.0)
+one_judged_evidence mesh walk evidence o p (inr x) (inl y) = absurd (x.excludes y.0)
 one_judged_evidence mesh walk evidence o p (inr x) (inr y) =
-    one_told (class_faults_are_one mesh (parity mesh walk) evidence) o p x.1 y.1
+    x.text
+    ∙ ap (λ fault. answers 1 (wrong_line fault))
+    (class_faults_are_one mesh (parity mesh walk) evidence x.fault y.fault x.isnt_memory y.isnt_memory x.is_fault y.is_fault)
+    ∙ sym y.text
 
 -- there is one walk that is chosen
 pub one_shortest : (mesh : Mesh) (lengths walk : List ℕ) → IsSurface mesh → ArePositive mesh lengths → IsClosed mesh walk →
