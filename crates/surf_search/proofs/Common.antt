@@ -29,9 +29,10 @@ pub use Rattle.surf_near.proofs.Linking.{item_edge_in, item_in, item_there, link
 pub use Rattle.surf_near.specs.Links.{AreLinks, AreLinksAt, IsShutAt, KeepsOff, link_in}
 pub use Rattle.surf_near.specs.Near.{IsNear, IsNearTo, NearTables, is_near}
 pub use Rattle.surf_near.specs.declared.links.Link.{Link}
+pub use Rattle.surf_search.proofs.FoundLoops.{found_of}
 pub use Rattle.surf_search.specs.Found.{AreFound, AreFoundBy, AreTold, IsFirstAmong, IsFirstAt, IsFirstOf, IsFirstTold}
 pub use Rattle.surf_search.specs.Found.{IsFound, IsLinkOf, IsNext, IsReady, IsRise, IsTold, IsUnwantedAt, ListsAt}
-pub use Rattle.surf_search.specs.Found.{Search, SurfaceTables, earlier_of, first_from, first_with, found_of, is_among}
+pub use Rattle.surf_search.specs.Found.{Search, SurfaceTables, earlier_of, first_from, first_with, is_among}
 pub use Rattle.surf_search.specs.Found.{is_between, is_earlier, is_wanted, may_matter, reached_at, search_of}
 pub use Rattle.surf_search.specs.Found.{surface_of, told_loop, wanted_loop}
 pub use Rattle.surf_search.specs.Marks.{AreMarkedIn, bits_backwards, by_degree, is_signed}

@@ -7,6 +7,7 @@ pub mod Climbed
 pub mod Counted
 pub mod FirstFound
 pub mod Firsts
+pub mod FoundLoops
 pub mod Looped
 pub mod Marked
 pub mod NearFirst

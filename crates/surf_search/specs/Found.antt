@@ -12,7 +12,7 @@ use Rattle.surf_surfaces.specs.Homology.{IsNull}
 use Rattle.surf_surfaces.specs.Class.{class_of}
 use Rattle.surf_surfaces.specs.Loop.{loop_walk, loop_length}
 use Rattle.surf_surfaces.specs.Choice.{Trees, AreChosen}
-use Rattle.surf_surfaces.specs.FewBases.{place_at, least_base, Found, IsFirstFound}
+use Rattle.surf_surfaces.specs.FewBases.{place_at, least_base, IsFirstFound}
 use Rattle.surf_cotree.specs.Tables.{CotreeTables}
 use Rattle.surf_near.specs.Near.{NearTables, AreNearTables, is_near}
 use Rattle.surf_near.specs.declared.links.Link.{Link}
@@ -168,14 +168,6 @@ AreFound mesh lengths s limit z found = (trees : ℕ → Trees) → AreChosen me
 abbrev pub is_among : List ℕ → ℕ → Bool
 is_among [] v = false
 is_among (x ∷ xs) v = (x == v) || is_among xs v
-
--- as a loop that was found
-abbrev pub found_of : Mesh → (ℕ → Tree) → Signed → Found
-found_of mesh trees c = record {
-  size = c.candidate.length;
-  through = c.candidate.base;
-  walk = loop_walk mesh (trees c.from) c.candidate.edge;
-}
 
 -- the choice was made again from what was kept and some loops, which were put into order
 pub record IsMerged (old : Chosen) (found : List Signed) (new : Chosen) : Type 0 where
