@@ -56,14 +56,15 @@ rows_split {A} form (suc m) k lines =
     two : (x : A) (xs : List A) (read : Read (List A)) → onto_rows x (behind_rows xs read) ≡ behind_rows (x ∷ xs) read
     two x xs (Ok rows) = refl
     two x xs (Err e) = refl
+
     one : (x : A) (read : Read (List A)) → onto_rows x (read >>= λ a. behind_rows a.0 (rows_of form k a.1)) ≡ (onto_rows x read >>= λ a. behind_rows a.0 (rows_of form k a.1))
     one x (Ok a) = two x a.0 (rows_of form k a.1)
     one x (Err e) = refl
+
     at : (next : Read A) → ((lines : List TextLine) → rows_of form (m + k) lines ≡ (rows_of form m lines >>= λ a. behind_rows a.0 (rows_of form k a.1)))
         → (next >>= λ x. onto_rows x.0 (rows_of form (m + k) x.1)) ≡ ((next >>= λ x. onto_rows x.0 (rows_of form m x.1)) >>= λ a. behind_rows a.0 (rows_of form k a.1))
     at (Ok x) split = ap (onto_rows x.0) (split x.1) ∙ one x.0 (rows_of form m x.1)
     at (Err e) split = refl
-
 
 abbrev Rows : Type 0
 Rows = List (ℕ × Option (ℕ × ℕ))
@@ -85,6 +86,7 @@ faces_split m f lines le =
     two : (xs : Rows) (read : Read Rows) → (behind_rows xs read >>= put_rows none) ≡ (read >>= put_rows (record { depth = map (λ row. row.0) xs; side = map (λ row. row.1) xs }))
     two xs (Ok rows) = λ i. Ok (record { depth = map-append (λ row. row.0) xs rows.0 i; side = map-append (λ row. row.1) xs rows.0 i }, rows.1)
     two xs (Err e) = refl
+
     at : (read : Read Rows) → ((read >>= λ a. behind_rows a.0 (rows_of dual_row (f - m) a.1)) >>= put_rows none) ≡ ((read >>= put_rows none) >>= λ x. more_faces x.0 (f - m) x.1)
     at (Ok a) = two a.0 (rows_of dual_row (f - m) a.1)
     at (Err e) = refl
@@ -106,15 +108,18 @@ loops_split lines = one (next_of counts_of lines)
     four : (counts : Counts) (tree : TreeRows) (read : Read DualRows) → ((read >>= λ x. more_faces x.0 (counts.faces - front_faces counts) x.1) >>= end_of counts tree) ≡ ((read >>= front_of counts tree) >>= behind)
     four counts tree (Ok dual) = refl
     four counts tree (Err e) = refl
+
     three : (counts : Counts) (tree : TreeRows) (word : Read ⊤) → ((word >>= λ word. dual_rows_of counts.faces word.1) >>= end_of counts tree) ≡ ((word >>= λ word. more_faces none (front_faces counts) word.1 >>= front_of counts tree) >>= behind)
     three counts tree (Ok word) =
         ap (λ (read : Read DualRows). read >>= end_of counts tree) (faces_split (front_faces counts) counts.faces word.1 (div-le_self counts.faces 3))
         ∙ four counts tree (more_faces none (front_faces counts) word.1)
     three counts tree (Err e) = refl
+
     two : (counts : Counts) (tree : Read TreeRows) → (tree >>= λ tree. dual_of counts.faces tree.1 >>= end_of counts tree.0)
         ≡ ((tree >>= λ tree. next_of (the_word (codes "dual")) tree.1 >>= λ word. more_faces none (front_faces counts) word.1 >>= front_of counts tree.0) >>= behind)
     two counts (Ok tree) = three counts tree.0 (next_of (the_word (codes "dual")) tree.1)
     two counts (Err e) = refl
+
     one : (counts : Read Counts) → (counts >>= λ counts. based_tree base_of counts.0.vertices counts.1 >>= λ tree. dual_of counts.0.faces tree.1 >>= end_of counts.0 tree.0)
         ≡ ((counts >>= λ counts. based_tree base_of counts.0.vertices counts.1 >>= λ tree. next_of (the_word (codes "dual")) tree.1 >>= λ word. more_faces none (front_faces counts.0) word.1 >>= front_of counts.0 tree.0) >>= behind)
     one (Ok counts) = two counts.0 (based_tree base_of counts.0.vertices counts.1)
@@ -139,6 +144,7 @@ tree_leave v lines = one (next_of base_of lines) (next_leaves base_of lines)
         → Leaves (1 + v) lines (read >>= vertex_rows base)
     two base rest at (Ok rows) same = same ∙ ap (drop v) at ∙ drop-drop v 1 lines
     two base rest at (Err e) same = tt
+
     one : (base : Read ℕ) → Leaves 1 lines base → Leaves (1 + v) lines (base >>= λ x. tree_of x.0 v x.1)
     one (Ok base) same = two base.0 base.1 same (rows_of tree_row v base.1) (rows_leave tree_row v base.1)
     one (Err e) same = tt
@@ -157,14 +163,17 @@ front_leaves lines = one (next_of counts_of lines) (next_leaves counts_of lines)
         let all : 1 + (1 + counts.vertices) + 1 + front_faces counts ≡ counts.vertices + front_faces counts + 3 = omega arith in
         same ∙ ap (drop (front_faces counts)) at ∙ drop-drop (front_faces counts) (1 + (1 + counts.vertices) + 1) lines ∙ ap (λ (n : ℕ). drop n lines) all
     four counts tree rest at (Err e) same = tt
+
     three : (counts : Counts) (tree : TreeRows) (rest : List TextLine) → rest ≡ drop (1 + (1 + counts.vertices)) lines → (read : Read ⊤) → Leaves 1 rest read
         → FrontLeaves lines (read >>= λ word. more_faces none (front_faces counts) word.1 >>= front_of counts tree)
     three counts tree rest at (Ok word) same = four counts tree word.1 (same ∙ ap (drop 1) at ∙ drop-drop 1 (1 + (1 + counts.vertices)) lines) (more_faces none (front_faces counts) word.1) (more_leave none (front_faces counts) word.1)
     three counts tree rest at (Err e) same = tt
+
     two : (counts : Counts) (rest : List TextLine) → rest ≡ drop 1 lines → (read : Read TreeRows) → Leaves (1 + counts.vertices) rest read
         → FrontLeaves lines (read >>= λ tree. next_of (the_word (codes "dual")) tree.1 >>= λ word. more_faces none (front_faces counts) word.1 >>= front_of counts tree.0)
     two counts rest at (Ok tree) same = three counts tree.0 tree.1 (same ∙ ap (drop (1 + counts.vertices)) at ∙ drop-drop (1 + counts.vertices) 1 lines) (next_of (the_word (codes "dual")) tree.1) (next_leaves (the_word (codes "dual")) tree.1)
     two counts rest at (Err e) same = tt
+
     one : (read : Read Counts) → Leaves 1 lines read
         → FrontLeaves lines (read >>= λ counts. based_tree base_of counts.0.vertices counts.1 >>= λ tree. next_of (the_word (codes "dual")) tree.1 >>= λ word. more_faces none (front_faces counts.0) word.1 >>= front_of counts.0 tree.0)
     one (Ok counts) same = two counts.0 counts.1 same (based_tree base_of counts.0.vertices counts.1) (tree_leave counts.0.vertices counts.1)

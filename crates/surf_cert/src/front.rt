@@ -30,8 +30,14 @@ pub(crate) struct Front {
 // The front of a certificate.
 #[tactic(auto, unfolding(crate::specs::Fronts::front_in))]
 fn read_front_lines(alloc: Global, lines: &mut Lines<'_>) -> Result<Front, CertText>
-    ensures front { Gives CertText.Memory (λ x. ((x.counts, x.tree,
-        record { depth = x.depth.items; side = x.side.items }), lines.new)) result
+    ensures front { Gives CertText.Memory (λ x. (
+      (
+        x.counts,
+        x.tree,
+        record { depth = x.depth.items; side = x.side.items },
+      ),
+      lines.new,
+    )) result
         (front_in lines.old) }
 {
     let counts = next_counts(lines)?;
@@ -50,9 +56,14 @@ fn read_front_lines(alloc: Global, lines: &mut Lines<'_>) -> Result<Front, CertT
 // The front of the certificate of a text.
 fn read_front(alloc: Global, text: &[u8]) -> Result<Front, CertText>
     requires short { length text.now < 4294967295 }
-    ensures front { Gives CertText.Memory (λ x. ((x.counts, x.tree,
-        record { depth = x.depth.items; side = x.side.items }),
-        drop (x.counts.vertices + front_faces x.counts + 4) (lines_of text.now))) result
+    ensures front { Gives CertText.Memory (λ x. (
+      (
+        x.counts,
+        x.tree,
+        record { depth = x.depth.items; side = x.side.items },
+      ),
+      drop (x.counts.vertices + front_faces x.counts + 4) (lines_of text.now),
+    )) result
         (front_in (drop 1 (lines_of text.now))) }
 {
     let mut lines = Lines::over(text);
@@ -64,8 +75,11 @@ fn read_front(alloc: Global, text: &[u8]) -> Result<Front, CertText>
 #[tactic(auto, unfolding(crate::specs::Fronts::behind_front))]
 fn read_behind(alloc: Global, text: &[u8], front: Front) -> Result<LoopCert, CertText>
     requires short { length text.now < 4294967295 }
-    ensures loops { Gives CertText.Memory (λ x. x) result (behind_front (front.counts, front.tree,
-        record { depth = front.depth.items; side = front.side.items }) (lines_of text.now)) }
+    ensures loops { Gives CertText.Memory (λ x. x) result (behind_front (
+      front.counts,
+      front.tree,
+      record { depth = front.depth.items; side = front.side.items },
+    ) (lines_of text.now)) }
 {
     let Front {
         counts,

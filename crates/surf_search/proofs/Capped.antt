@@ -342,10 +342,14 @@ module _ (mesh : Mesh) (lengths : List ℕ) (trees : ℕ → Tree) (surface : Is
         (all_depend kept k.loops least (suc (2 * far)) (c.length + 2 * far) (Some w) found k.enough.loops k.told k.order h
         (λ e le. shorter_sooner w.length w.base (loop_length mesh other (others z) e) (least_base mesh others z e)
         (omega (arith, le, less, within)))
-        (λ i s l. (let (sum, is, one) = long i s l in (sum, is, elim one [
-          | inl low ↦ inl low
-          | inr more ↦ inr (omega (arith, more, less))
-        ])))) in record {
+        (λ i s l. (let (sum, is, one) = long i s l in (
+          sum,
+          is,
+          elim one [
+            | inl low ↦ inl low
+            | inr more ↦ inr (omega (arith, more, less))
+          ],
+        )))) in record {
           loops = k.loops;
           told = k.told;
           enough = grow.fewer (with_near_places others z far here (limited (is_sought limit) sought))
@@ -372,10 +376,14 @@ longer_more kept least old new sum i found s l same le all is one =
     subst (AreLongerOr kept least new) (sym (take_more found i s l ∙ ap (λ x. take i found ++ x ∷ []) (sym same)))
     (All-append (λ c. (n : ℕ) × IsSumOfLength kept n c.signature × ((n ≤ least) ⊎ (n + new ≤ c.candidate.length)))
     (take i found) (s ∷ [])
-    (λ k d k_in. (let (n, are, far) = all k d k_in in (n, are, elim far [
-      | inl low ↦ inl low
-      | inr more ↦ inr (omega (arith, more, le))
-    ])))
+    (λ k d k_in. (let (n, are, far) = all k d k_in in (
+      n,
+      are,
+      elim far [
+        | inl low ↦ inl low
+        | inr more ↦ inr (omega (arith, more, le))
+      ],
+    )))
     (All-from_recursion (λ c. (n : ℕ) × IsSumOfLength kept n c.signature × ((n ≤ least) ⊎ (n + new ≤ c.candidate.length)))
     (s ∷ []) ((sum, is, one), tt)))
 
