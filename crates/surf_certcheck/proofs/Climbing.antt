@@ -1,5 +1,6 @@
 -- The coordinates of ways up a tree, and of loops through it.
-use Rattle.surf_treecheck.proofs.Common.{unwrap_or, ◌≡◌, ◌≢◌, ℕ, ◌<◌, Some, None, List, length, get_or, IsPermutation, Contains, bit_xor, slice_index, sym, ap, ◌∙◌, subst, arith, range_with_len, length-range_with_len, get_or-range_with_len, All-permutation, Contains-permutation, Split, loop_walk, Mesh, edge_signature, walk_signature, edge_count, ends, IsSurface, xor_assoc, xor_comm, xor_zero_l, runs_loop, TreeRows, certified_tree, distance_at, parent_at, IsParent}
+use Rattle.surf_treecheck.proofs.Common.{unwrap_or, ◌≡◌, ◌≢◌, ℕ, ◌<◌, Some, None, List, length, get_or, IsPermutation, Contains, bit_xor, slice_index, sym, ap, ◌∙◌, subst, arith, range_with_len, length-range_with_len, get_or-range_with_len, All-permutation, Contains-permutation, Split, loop_walk, Mesh, edge_signature, walk_signature, edge_count, ends, IsSurface, xor_zero_l, runs_loop, TreeRows, certified_tree, distance_at, parent_at, IsParent}
+use Rattle.std.specs.Int.Bits.{xor_assoc, xor_comm}
 use Rattle.surf_certcheck.proofs.Common.{way_class, AreTaken, IsClimbed}
 use Rattle.surf_surfaces.proofs.classes.SignatureLaws.{signatures_are_classes}
 use Rattle.surf_signatures.proofs.WayLaws.{way_none, way_more, loop_class}

@@ -1,5 +1,6 @@
 -- The classes of the ways from the base of a search, vertex by vertex.
-use Rattle.surf_search.proofs.Common.{◌≡◌, ◌≢◌, ℕ, ◌<◌, ◌≤◌, ◌+◌, true, false, List, length, slice_index, bit_xor, get_or, sym, ap, ◌∙◌, subst, arith, inl, inr, eq-eqb, ◌==◌, cases_eq, cases_lt, leb-true, nat_tests, get_or_read, Tree, Mesh, edge_count, IsSurface, ArePositive, edge_number, IsShortestTree, edge_signature, xor_comm, choice_exists, shortest_is_tree, way_class, way_none, way_more, CotreeTables, NearTables, IsNear, IsNearTo, WayTables, class_at, IsWayAt, AreWays, IsNumbered, HasParent}
+use Rattle.surf_search.proofs.Common.{◌≡◌, ◌≢◌, ℕ, ◌<◌, ◌≤◌, ◌+◌, true, false, List, length, slice_index, bit_xor, get_or, sym, ap, ◌∙◌, subst, arith, inl, inr, eq-eqb, ◌==◌, cases_eq, cases_lt, leb-true, nat_tests, get_or_read, Tree, Mesh, edge_count, IsSurface, ArePositive, edge_number, IsShortestTree, edge_signature, choice_exists, shortest_is_tree, way_class, way_none, way_more, CotreeTables, NearTables, IsNear, IsNearTo, WayTables, class_at, IsWayAt, AreWays, IsNumbered, HasParent}
+use Rattle.std.specs.Int.Bits.{xor_comm}
 use Rattle.surf_search.proofs.Climbed.{at_edge}
 
 -- the first of those that were settled have it

@@ -1,5 +1,6 @@
 -- What the tables of a search tell of the loops at its base.
-use Rattle.surf_search.proofs.Common.{◌≡◌, ◌≢◌, ℕ, zero, suc, ◌<◌, ◌≤◌, ◌+◌, ◌*◌, ◌/◌, ◌^◌, ◌++◌, ◌∷◌, [], true, false, not, ltb, eqb, eqb-true, cond, ◌-◌, List, length, get_or, map, slice_index, bit_xor, min, All, Contains, Option, Some, None, refl, sym, ap, ◌∙◌, subst, arith, inl, inr, IsTrue, ◌==◌, cases_Bool, cases_eq, cases_lt, and_parts, and_from, leb-true, le-leb, ltb-true, nat_tests, get_or_default, get_or_read, length-map, get_or-map, Split, Tree, Mesh, edge_count, ends, IsSurface, ArePositive, edge_length, edge_number, AreShortestTrees, loop_length, Trees, AreChosen, edge_signature, All-push, Contains-append_left, Contains-append_right, place_at, comes_sooner, least_base, least_on_way, xor_assoc, xor_comm, shortest_trees, ends_are_near, zero_distance, least_tables_are_least, shortest_is_tree, shortest_is_shortest, way_class, loop_class, lengths_positive, ends_in, CotreeTables, Link, AreLinks, AreLinksAt, link_in, NearTables, IsNear, IsNearTo, is_near, link_all, Candidate, Signed, place_of, is_sought, AreDistances, radius_of, AreSignatures, WayTables, class_at, AreWays, Search, IsReady, IsLinkOf, IsRise, may_matter, is_between, told_loop, is_wanted, wanted_loop, IsTold, ListsAt, AreTold, IsFound, AreFoundBy}
+use Rattle.surf_search.proofs.Common.{◌≡◌, ◌≢◌, ℕ, zero, suc, ◌<◌, ◌≤◌, ◌+◌, ◌*◌, ◌/◌, ◌^◌, ◌++◌, ◌∷◌, [], true, false, not, ltb, eqb, eqb-true, cond, ◌-◌, List, length, get_or, map, slice_index, bit_xor, min, All, Contains, Option, Some, None, refl, sym, ap, ◌∙◌, subst, arith, inl, inr, IsTrue, ◌==◌, cases_Bool, cases_eq, cases_lt, and_parts, and_from, leb-true, le-leb, ltb-true, nat_tests, get_or_default, get_or_read, length-map, get_or-map, Split, Tree, Mesh, edge_count, ends, IsSurface, ArePositive, edge_length, edge_number, AreShortestTrees, loop_length, Trees, AreChosen, edge_signature, All-push, Contains-append_left, Contains-append_right, place_at, comes_sooner, least_base, least_on_way, shortest_trees, ends_are_near, zero_distance, least_tables_are_least, shortest_is_tree, shortest_is_shortest, way_class, loop_class, lengths_positive, ends_in, CotreeTables, Link, AreLinks, AreLinksAt, link_in, NearTables, IsNear, IsNearTo, is_near, link_all, Candidate, Signed, place_of, is_sought, AreDistances, radius_of, AreSignatures, WayTables, class_at, AreWays, Search, IsReady, IsLinkOf, IsRise, may_matter, is_between, told_loop, is_wanted, wanted_loop, IsTold, ListsAt, AreTold, IsFound, AreFoundBy}
+use Rattle.std.specs.Int.Bits.{xor_assoc, xor_comm}
 use Rattle.surf_lengths.specs.Lengths.{longest, AreLengths}
 use Rattle.surf_tree.proofs.LengthLaws.{short_lengths}
 use Rattle.surf_search.proofs.Climbed.{at_edge}
