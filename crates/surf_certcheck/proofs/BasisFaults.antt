@@ -1,6 +1,6 @@
 -- A certificate of a basis with a fault isn't valid, and a valid one shows a least basis.
-use Rattle.surf_treecheck.proofs.Common.{◌≡◌, ◌≢◌, ℕ, List, [], length, get_or, refl, sym, ap, ◌∙◌, subst, inl, inr, true≢false, get_or_default, Mesh, pair_of, pair_eq, edges, among, IsSurface, ArePositive, IfOk, IfErr, Result, Ok, Err, pair_eq-true, among-contains, list_any_at, BasisCert, tree_at, IsClosedList, IsValidBasis, basis_total, HoldsBelow, IsBadPair, IsBasisShapeFault, CertPart, Vertices, Faces, Loops, Base, CertFault, Shape, Parent, Distance, Slack, Dual, Heavier, NotClosed, Dependent, Uncovered, Memory}
-use Rattle.surf_certcheck.proofs.Common.{IsCycleClosed, IsIndependentAt, AreTreesDivided, IsBasisFault}
+use Rattle.surf_treecheck.proofs.Common.{◌≡◌, ◌≢◌, ℕ, List, [], length, get_or, refl, sym, ap, ◌∙◌, subst, inl, inr, true≢false, get_or_default, Mesh, pair_of, pair_eq, edges, among, IsSurface, ArePositive, IfOk, IfErr, Result, Ok, Err, pair_eq-true, among-contains, list_any_at, BasisCert, tree_at, IsClosedList, IsValidBasis, basis_total, HoldsBelow, IsBadPair, IsBasisShapeFault}
+use Rattle.surf_certcheck.proofs.Common.{IsCycleClosed, IsIndependentAt, AreTreesDivided, IsBasisFault, CertPart, Vertices, Faces, Loops, Base, CertFault, Shape, Parent, Distance, Slack, Dual, Heavier, NotClosed, Dependent, Uncovered, Memory}
 use Rattle.surf_surfaces.specs.Homology.{total, IsLeastBasis}
 use Rattle.surf_validity.proofs.BasisLaws.{valid_bases_are_least}
 use Rattle.surf_treecheck.specs.declared.fault.CertFault.TheVariants.{Split}

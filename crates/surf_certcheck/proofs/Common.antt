@@ -16,3 +16,8 @@ pub use Rattle.surf_signatures.proofs.Meeting.{climbed, either_first, none_betwe
 pub use Rattle.surf_signatures.proofs.Passing.{passing_left, passing_same, passing_taken}
 pub use Rattle.surf_signatures.specs.Tables.{HangsBy, Signed, added_where, face_tree, words_for}
 pub use Rattle.surf_signatures.specs.Ways.{way_class}
+pub use Rattle.surf_treecheck.specs.declared.fault.CertFault.{CertFault}
+pub use Rattle.surf_treecheck.specs.declared.fault.CertFault.TheVariants.{Dependent, Distance, Dual, Heavier, Memory}
+pub use Rattle.surf_treecheck.specs.declared.fault.CertFault.TheVariants.{NotClosed, Parent, Shape, Slack, Uncovered}
+pub use Rattle.surf_treecheck.specs.declared.fault.CertPart.{CertPart}
+pub use Rattle.surf_treecheck.specs.declared.fault.CertPart.TheVariants.{Base, Faces, Loops, Vertices}

@@ -1,6 +1,6 @@
 -- The fault of a certificate of loops is its first one, and one with a fault isn't valid.
-use Rattle.surf_treecheck.proofs.Common.{◌≢◌, ℕ, zero, suc, List, get_or, refl, sym, ap, inl, inr, ◌∙◌, true≢false, Mesh, pair_of, pair_eq, edges, among, edge_count, pair_eq-true, among-contains, list_any_at, TreeRows, DualRows, LoopCert, HasShape, IsNoShortCut, IsDualValid, IsDivided, HasNoShorter, IsValidLoops, HoldsBelow, HasParent, HasDistance, IsBadPair, IsShapeFault, CertPart, Vertices, Faces, Loops, Base, CertFault, Shape, Parent, Distance, Slack, Dual, Heavier, NotClosed, Dependent, Uncovered, Memory}
-use Rattle.surf_certcheck.proofs.Common.{IsLoopFault}
+use Rattle.surf_treecheck.proofs.Common.{◌≢◌, ℕ, zero, suc, List, get_or, refl, sym, ap, inl, inr, ◌∙◌, true≢false, Mesh, pair_of, pair_eq, edges, among, edge_count, pair_eq-true, among-contains, list_any_at, TreeRows, DualRows, LoopCert, HasShape, IsNoShortCut, IsDualValid, IsDivided, HasNoShorter, IsValidLoops, HoldsBelow, HasParent, HasDistance, IsBadPair, IsShapeFault}
+use Rattle.surf_certcheck.proofs.Common.{IsLoopFault, CertPart, Vertices, Faces, Loops, Base, CertFault, Shape, Parent, Distance, Slack, Dual, Heavier, NotClosed, Dependent, Uncovered, Memory}
 use Rattle.surf_treecheck.specs.declared.fault.CertFault.TheVariants.{Split}
 use Rattle.surf_treecheck.proofs.FirstFault.{kind, Passed, AreFirst}
 

@@ -1,6 +1,6 @@
 -- The fault of a certificate of a basis is its first one, so there is one, and a valid certificate has none.
-use Rattle.surf_treecheck.proofs.Common.{◌≡◌, ◌≢◌, ℕ, zero, suc, List, [], length, refl, sym, ap, subst, ◌∙◌, Mesh, face_count, edge_count, ends, BasisCert, IsDualValid, IsDivided, HasDualRows, tree_at, HasBasisShape, IsCovered, IsValidBasis, HasTrees, HasCounts, HoldsBelow, FailsFirst, HasDual, HasBase, IsBasisShapeFault, FirstPart, IsFirstAt, HasParentAt, HasDistanceAt, IsNoShortCutAt, HasParents, HasDistances, CertPart, Vertices, Faces, Loops, Base, CertFault, Shape, Parent, Distance, Slack, Dual, Heavier, NotClosed, Dependent, Uncovered, Memory}
-use Rattle.surf_certcheck.proofs.Common.{IsCycleClosed, IsIndependentAt, DependsFirst, AreTreesDivided, IsBasisFault}
+use Rattle.surf_treecheck.proofs.Common.{◌≡◌, ◌≢◌, ℕ, zero, suc, List, [], length, refl, sym, ap, subst, ◌∙◌, Mesh, face_count, edge_count, ends, BasisCert, IsDualValid, IsDivided, HasDualRows, tree_at, HasBasisShape, IsCovered, IsValidBasis, HasTrees, HasCounts, HoldsBelow, FailsFirst, HasDual, HasBase, IsBasisShapeFault, FirstPart, IsFirstAt, HasParentAt, HasDistanceAt, IsNoShortCutAt, HasParents, HasDistances}
+use Rattle.surf_certcheck.proofs.Common.{IsCycleClosed, IsIndependentAt, DependsFirst, AreTreesDivided, IsBasisFault, CertPart, Vertices, Faces, Loops, Base, CertFault, Shape, Parent, Distance, Slack, Dual, Heavier, NotClosed, Dependent, Uncovered, Memory}
 use Rattle.surf_treecheck.specs.declared.fault.CertFault.TheVariants.{Split}
 use Rattle.surf_treecheck.proofs.ShortCuts.{HasNoShortCut}
 use Rattle.surf_certcheck.proofs.Bases.{AreCovered}

@@ -1,6 +1,6 @@
 -- A certificate has one fault.
-use Rattle.surf_treecheck.proofs.Common.{◌≡◌, ◌≢◌, ℕ, ◌<◌, List, length, sym, ap, subst, inl, inr, ◌∙◌, true≢false, cases_Bool, Mesh, pair_eq, edge_count, ends, IsLoopCount, pair_eq-true, pair_lt-total, TreeRows, DualRows, LoopCert, IsNoShortCut, HasNoShorter, IsNotHeavier, HasTreeRows, HasDualRows, FailsFirst, HasParent, HasDistance, HasDual, IsLeastBadPair, IsShapeFault, FirstPart, CertPart, Vertices, Faces, Loops, Base, CertFault, Shape, Parent, Distance, Slack, Dual, Heavier, Memory}
-use Rattle.surf_certcheck.proofs.Common.{IsHeavierFault, IsLoopFault}
+use Rattle.surf_treecheck.proofs.Common.{◌≡◌, ◌≢◌, ℕ, ◌<◌, List, length, sym, ap, subst, inl, inr, ◌∙◌, true≢false, cases_Bool, Mesh, pair_eq, edge_count, ends, IsLoopCount, pair_eq-true, pair_lt-total, TreeRows, DualRows, LoopCert, IsNoShortCut, HasNoShorter, IsNotHeavier, HasTreeRows, HasDualRows, FailsFirst, HasParent, HasDistance, HasDual, IsLeastBadPair, IsShapeFault, FirstPart}
+use Rattle.surf_certcheck.proofs.Common.{IsHeavierFault, IsLoopFault, CertPart, Vertices, Faces, Loops, Base, CertFault, Shape, Parent, Distance, Slack, Dual, Heavier, Memory}
 use Rattle.surf_treecheck.specs.declared.fault.CertFault.TheVariants.{Split}
 use Rattle.surf_treecheck.proofs.FirstFault.{first_same, first_part_same, AreSingle, one_fault}
 use Rattle.surf_certcheck.proofs.LoopFaults.{Holds, loop_faults_are_first}

@@ -1,5 +1,6 @@
 -- A certificate that is found valid is least place by place.
-use Rattle.surf_treecheck.proofs.Common.{◌≡◌, ℕ, List, Mesh, IsSurface, ArePositive, IfOk, Result, Ok, Err, LoopCert, BasisCert, IsValidLoops, certified_loops, loops_total, IsValidBasis, basis_total, CertFault}
+use Rattle.surf_treecheck.proofs.Common.{◌≡◌, ℕ, List, Mesh, IsSurface, ArePositive, IfOk, Result, Ok, Err, LoopCert, BasisCert, IsValidLoops, certified_loops, loops_total, IsValidBasis, basis_total}
+use Rattle.surf_certcheck.proofs.Common.{CertFault}
 use Rattle.surf_surfaces.specs.Places.{IsLeastLoopSystemInOrder, IsLeastBasisInOrder, MeasureShortest}
 use Rattle.surf_validity.proofs.PlaceLaws.{valid_loops_are_least_in_order, valid_bases_are_least_in_order, valid_bases_measure_shortest}
 

@@ -1,6 +1,6 @@
 -- What a valid certificate of loops shows, and what a fault rules out, of an answer.
-use Rattle.surf_treecheck.proofs.Common.{◌≡◌, ◌≢◌, ℕ, List, sym, ◌∙◌, Mesh, IsSurface, ArePositive, total, IsLeastLoopSystem, IfOk, IfErr, Result, Ok, Err, LoopCert, IsValidLoops, certified_loops, loops_total, CertFault, Memory}
-use Rattle.surf_certcheck.proofs.Common.{IsLoopFault}
+use Rattle.surf_treecheck.proofs.Common.{◌≡◌, ◌≢◌, ℕ, List, sym, ◌∙◌, Mesh, IsSurface, ArePositive, total, IsLeastLoopSystem, IfOk, IfErr, Result, Ok, Err, LoopCert, IsValidLoops, certified_loops, loops_total}
+use Rattle.surf_certcheck.proofs.Common.{IsLoopFault, CertFault, Memory}
 use Rattle.surf_validity.proofs.LoopLaws.{valid_loops_are_least}
 use Rattle.surf_certcheck.proofs.LoopFaults.{no_loop_fault}
 

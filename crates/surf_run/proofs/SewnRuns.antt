@@ -1,12 +1,11 @@
 -- What `sew` writes of what `cut` wrote is read as the mesh that was cut.
 use Rattle.surf_surfaces.proofs.Common.{◌≡◌, ◌<◌, ◌≤◌, ◌+◌, ◌*◌, ◌++◌, ℕ, Bool, true, false, List, [], ◌∷◌, length, Option, Some, None, Result, Ok, Err, refl, sym, ap, ◌∙◌, subst, arith, inr, AllByRecursion, sum_by, zip, bytes_eq, length-append, recursion_from_All, sum_by-cons, Mesh, IsFace, side_count, face_count, edge_count, loop_count, IsSurface, ltb-false, length-decimal-le, IsOpening}
 use Rattle.std.specs.Prelude.{nat_lt, ◌&&◌, if◌then◌else◌, option_map, codes, decimal}
-use Rattle.surf_base.specs.Outside.{Files, bytes_of}
+use Rattle.surf_run.proofs.Common.{Files, bytes_of, numbers_text, OnRequest, off_cause, copy_cause, sew_cause, Reads, within_text, goes}
 use Rattle.surf_base.specs.declared.limits.LimitKind.TheVariants.{Text, Loops}
 use Rattle.surf_disc.proofs.TableLaws.{edges_within}
 use Rattle.surf_off.specs.Off.{OffParts, off_of, off_without_limits}
 use Rattle.surf_off.specs.Keywords.{keyword}
-use Rattle.surf_text.specs.Numbers.{numbers_text}
 use Rattle.surf_off.specs.Written.{head_text, lines_text, colour_text, face_text, faces_text, mesh_text}
 use Rattle.surf_off.specs.declared.header.Header.{Header}
 use Rattle.surf_off.specs.declared.header.Header.TheVariants.{Off, Coff, Noff, Cnoff, Stoff, Stcoff, Stnoff, Stcnoff}
@@ -21,14 +20,9 @@ use Rattle.surf_sew.proofs.Limits.{limits_are_kept}
 use Rattle.surf_texts.specs.Cause.{misused, refused_by}
 use Rattle.surf_answers.specs.Cuts.{cut_text}
 use Rattle.surf_cutter.specs.Opened.{OpenMesh}
-use Rattle.surf_run.specs.Commands.{OnRequest}
 use Rattle.surf_run.specs.Leads.{Answer, Leads}
 use Rattle.surf_texts.specs.Limits.{beyond}
-use Rattle.surf_texts.specs.MeshLines.{off_cause}
-use Rattle.surf_texts.specs.SewingLines.{copy_cause, sew_cause}
 use Rattle.surf_texts.specs.Outcome.{Outcome, answers, status_of, Shows}
-use Rattle.surf_run.specs.Reading.{Reads, within_text}
-use Rattle.surf_run.specs.Steps.{goes}
 use Rattle.surf_run.specs.TwoRuns.{CanBeRead, IsSewnBack, CutsAreSewn, CutsThroughAreSewn}
 use Rattle.surf_words.specs.Words.{Extent, fully, trimmed, through, word_number, cut as cut_request, request_of}
 use Rattle.surf_run.proofs.CertSizes.{length_of_three, length_of_four}

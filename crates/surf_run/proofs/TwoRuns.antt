@@ -1,7 +1,7 @@
 -- What `certify` writes passes `check`.
 use Rattle.surf_surfaces.proofs.Common.{◌≡◌, ◌<◌, ◌≤◌, ℕ, false, List, [], ◌∷◌, length, Option, Some, None, Result, Ok, Err, refl, sym, ap, ◌∙◌, subst, arith, inl, le-ltb, Mesh, IsSurface, face_count, edge_count, loop_count, ArePositive, Loop, loops_at, IsChosenBasis, IsLoopCount, All-get_or, All-nil}
 use Rattle.std.specs.Prelude.{nat_lt, option_map, codes}
-use Rattle.surf_base.specs.Outside.{Files, bytes_of}
+use Rattle.surf_run.proofs.Common.{Files, bytes_of, cert_cause, off_cause, OffParts, off_of, OnRequest, named, Reads, within_text, IsSurfaceText, HasLengths, HasBase, goes}
 use Rattle.surf_base.specs.declared.limits.LimitKind.TheVariants.{CertificateVertices}
 use Rattle.surf_base.specs.declared.limits.LimitKind.TheVariants as limits
 use Rattle.surf_cert.specs.Grammar.{parsed_cert}
@@ -10,28 +10,22 @@ use Rattle.surf_records.specs.declared.cert.Cert.TheVariants.{Loops, Basis}
 use Rattle.surf_records.proofs.ChosenFits.{AreNumbers, chosen_loops_fit, chosen_basis_fits}
 use Rattle.surf_cert.proofs.ChosenReread.{chosen_loops_again, chosen_basis_again}
 use Rattle.surf_texts.specs.Cause.{Cause, refused_by}
-use Rattle.surf_texts.specs.CertLines.{cert_cause}
 use Rattle.surf_texts.specs.MeasuredTexts.{measured_text}
 use Rattle.surf_texts.specs.CountLines.{count_line}
-use Rattle.surf_texts.specs.MeshLines.{off_cause}
 use Rattle.surf_surfaces.proofs.walks.ShortestWalkLaws.{first_of_basis_is_shortest_not_null}
 use Rattle.surf_lengths.specs.Lengths.{IsLength, AreLengths}
 use Rattle.surf_lengths.proofs.Positive.{lengths_positive}
-use Rattle.surf_off.specs.Off.{OffParts, off_of}
 use Rattle.surf_validity.specs.Chosen.{chosen_cert, basis_cert_of}
 use Rattle.surf_validity.proofs.BasisLaws.{valid_bases_are_least}
 use Rattle.surf_validity.proofs.ChosenTotals.{chosen_loops_total, chosen_basis_total}
 use Rattle.surf_validity.proofs.LoopLaws.{valid_loops_are_least}
 use Rattle.surf_validity.proofs.PlaceLaws.{valid_loops_are_least_in_order, valid_bases_are_least_in_order, valid_bases_measure_shortest}
 use Rattle.surf_answers.specs.Certificates.{GivesLoopCert, GivesBasisCert}
-use Rattle.surf_run.specs.Commands.{OnRequest, named}
 use Rattle.surf_run.specs.Leads.{Answer, Leads}
 use Rattle.surf_run.specs.Named.{AgreeOn}
 use Rattle.surf_texts.specs.Outcome.{Outcome, answers, status_of}
-use Rattle.surf_run.specs.Reading.{Reads, within_text, IsSurfaceText, HasLengths, HasBase}
 use Rattle.surf_answers.specs.Says.{Says}
 use Rattle.surf_answers.specs.Summaries.{total_size}
-use Rattle.surf_run.specs.Steps.{goes}
 use Rattle.surf_run.specs.TwoRuns.{LoopsPass, BasisPasses, CertifiedLoopsPass, CertifiedBasesPass}
 use Rattle.surf_words.specs.Words.{word_number, loops as loops_request, certify_loops, request_of}
 use Rattle.surf_run.proofs.CertSizes.{loop_text_short, basis_text_short}
