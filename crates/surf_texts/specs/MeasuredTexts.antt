@@ -14,6 +14,5 @@ total_lines word count total = codes word ++ decimal count ++ codes "\ntotal " +
 
 -- and a line for each
 abbrev pub measured_text : Literal → Literal → List Loop → List ℕ
-measured_text many one walks =
-    total_lines many (length walks) (sum (map (λ w. w.size) walks))
+measured_text many one walks = total_lines many (length walks) (sum (map (λ w. w.size) walks))
     ++ flat_map (λ w. measured_line one w.size w.walk) walks
