@@ -66,8 +66,8 @@ impl<'a> Bits<'a> {
         add_words(words, &self.words[..count]);
     }
 
-    /// The words.
-    pub(crate) fn words(&self) -> &[u64]
+    /// The words that write it, at most sixteen, that of the least numbers first.
+    pub fn words(&self) -> &[u64]
         ensures few { length result.now ≤ 16 }
         ensures set { number result.now ≡ self.now }
     {

@@ -6,7 +6,7 @@ use Rattle.surf_text.specs.Text.{TextLine, tokens_of, trimmed, uncommented, onto
 use Rattle.surf_text.proofs.Cuts.{none_is}
 use Rattle.surf_lengths.specs.Lengths.{longest}
 use Rattle.surf_base.specs.Gives.{◌>>=◌}
-use Rattle.surf_lengths.specs.Lines.{as_length, entry_of, of_numbers, edge_named, three_numbers}
+use Rattle.surf_lengths.specs.Lines.{entry_of, of_numbers, edge_named, three_numbers}
 use Rattle.surf_lengths.specs.Files.{Head, Named, none_named, name_edge, name_line, all_named, missing_edge}
 use Rattle.surf_lengths.specs.Naming.{NamesOther, IsFirstNaming, length_or, IsTableOf, AreNamed}
 use Rattle.surf_lengths.specs.Walks.{IsEntry, IsFaulty}

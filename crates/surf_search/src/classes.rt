@@ -16,9 +16,9 @@ struct Member {
     next: u32,
 }
 
-/// Classes in the order in which they came. To be found each is in the chain of its hash. The class
-/// that came last is the first there: the ways to vertices that are settled one after the other
-/// often have one class.
+/// Classes in the order in which they came. Each is in the chain of its hash, so that it is found
+/// again. The class that came last is the first there: the ways to vertices that are settled one
+/// after the other often have one class.
 #[derive(Drop)]
 pub(crate) struct Classes {
     list: Vec<Signature>,

@@ -37,9 +37,10 @@ fn cost_of_round(distances: &[u64], reached: &[u64], caps: &[u64], most: u64) ->
     cost
 }
 
-/// Whether searches from the vertices of a cut cost less than those by caps. There scouts pass over
-/// most vertices, so that they may be four times as many, or twice where all edges are as long.
-/// Either answer is right: only the time that it takes depends on it.
+/// Whether searches from the vertices of a cut cost less than those by caps. More of them are spared
+/// by what was searched before, so that they may come to four times as many vertices, or twice as
+/// many where all edges are as long. Either answer is right: only the time that it takes depends on
+/// it.
 pub(crate) fn is_cut_cheaper(
     costs: &Costs<'_>,
     limit: &Option<Candidate>,
