@@ -1,14 +1,10 @@
 -- The lengths with bars, and what barring one more vertex does to them.
-use Rattle.std.proofs.Common.{◌≡◌, ℕ, ◌<◌, [], Bool, true, false, ◌||◌, if◌then◌else◌, eqb, eq-eqb, List, length, set, replicate, refl, sym, ap, ◌∙◌, subst, arith, inl, inr, get_or-set_same, get_or-set_other}
-use Rattle.surf_surfaces.proofs.Common.{cases_Bool, cases_lt, eqb-true, or_cases, or_left, or_right, or_from, or_parts, ext_get_or, get_or-replicate, get_or_past, length-replicate, All-from_get_or, get_or-map-range_with_len, length-map-range_with_len, Mesh, edge_count, ends, edge_length}
-use Rattle.std.specs.Prelude.{slice_index_or, Contains, Option, Some, None, MatchOption, ⊤}
-use Rattle.surf_lengths.specs.Lengths.{longest, IsLength, AreLengths}
-use Rattle.surf_tree.specs.Queues.{AreEven, AreUpTo, IsEvenness}
-use Rattle.surf_tree.proofs.LengthLaws.{short_lengths}
-use Rattle.surf_near.specs.declared.links.Link.{Link}
-use Rattle.surf_near.specs.Links.{AreLinks, AreLinksAt, AreGiven, AreGivenAt, AreUpToOrPast, link_in, length_past}
-use Rattle.surf_near.specs.Links.{is_barred, barred_lengths, KeepsOff, IsShutAt}
-use Rattle.surf_near.proofs.Linking.{link_edge_in, link_ends, item_in, item_with}
+use Rattle.surf_near.proofs.Common.{◌≡◌, ℕ, ◌<◌, ◌≤◌, ◌⊎◌, [], Bool, true, false, ◌||◌, if◌then◌else◌, eqb, eq-eqb, List, length, set, replicate, refl, sym, ap, ◌∙◌, subst, arith, inl, inr, get_or-set_same, get_or-set_other, cases_Bool, cases_lt, eqb-true, or_cases, or_left, or_right, or_from, or_parts, ext_get_or, get_or-replicate, get_or_past, length-replicate, All-from_get_or, get_or-map-range_with_len, length-map-range_with_len, Mesh, edge_count, ends, edge_length, slice_index_or, Contains, Option, Some, None, longest, IsLength, AreLengths, short_lengths, Link, AreLinks, AreLinksAt, AreGiven, AreGivenAt, AreUpToOrPast, AreEvenOrPast, AreSizes, link_in, length_past, is_barred, barred_lengths, KeepsOff, IsShutAt}
+use Rattle.std.specs.Prelude.{All, slice_index, MatchOption, ⊤}
+use Rattle.surf_buckets.specs.declared.TheConstants.{BUCKETS}
+use Rattle.surf_tree.specs.Queues.{IsEvenness}
+use Rattle.surf_near.specs.declared.sizes.Sizes.{Sizes}
+use Rattle.surf_near.proofs.Linking.{link_to_in, link_edge_in, link_ends, item_in, item_with}
 
 at_bar : (bar : Bool) (n : ℕ) → bar ≡ true → (if bar then longest else n) ≡ longest
 at_bar bar n e = rw e refl
@@ -16,10 +12,13 @@ at_bar bar n e = rw e refl
 off_bar : (bar : Bool) (n : ℕ) → bar ≡ false → (if bar then longest else n) ≡ n
 off_bar bar n e = rw e refl
 
--- of an answer on evenness, what holds of the one length
-pub even_kept : (lengths : List ℕ) (even : Option ℕ) → IsEvenness lengths even → MatchOption even ⊤ (AreEven lengths)
-even_kept lengths None is = tt
-even_kept lengths (Some size) is = is
+-- a length that is less than the least of the great ones is at most the greatest of the small ones
+pub sizes_apart : (lengths : List ℕ) (sizes : Sizes) → AreSizes lengths sizes → (radius : ℕ) → radius < sizes.least_great →
+    AreUpToOrPast lengths radius sizes.greatest_small
+sizes_apart lengths sizes are radius near e l = elim (cases_lt (slice_index lengths e) BUCKETS) [
+  | inl low ↦ inl (are.small e l low)
+  | inr high ↦ let from = are.great e l high in inr (omega arith)
+]
 
 module _ (mesh : Mesh) (given : List ℕ) where
   module _ (barred : List Bool) where
@@ -50,23 +49,23 @@ module _ (mesh : Mesh) (given : List ℕ) where
           | inr free ↦ subst IsLength (sym (open_at e le free)) (are e 0 le)
         ])
 
-    -- a step that no given length exceeds
-    pub up_to_shut : (radius most : ℕ) → AreUpTo given most → radius < longest → AreUpToOrPast (barred_lengths mesh barred given) radius most
-    up_to_shut radius most all near e l =
+    -- what holds of all given lengths but those past a radius holds of those with bars, if a bar is past it or none is there
+    pub still_past : (P : ℕ → Type 0) (radius : ℕ) (barring : Bool) → (barring ≡ false → barred_lengths mesh barred given ≡ given) →
+        (radius < longest) ⊎ (barring ≡ false) → ((e : ℕ) → e < length given → P (edge_length given e) ⊎ (radius < edge_length given e)) →
+        (e : ℕ) → e < length (barred_lengths mesh barred given) →
+        P (edge_length (barred_lengths mesh barred given) e) ⊎ (radius < edge_length (barred_lengths mesh barred given) e)
+    still_past P radius barring same (inr none) all e l = rw (same none) (all e (omega (arith, barred_count)))
+    still_past P radius barring same (inl near) all e l =
         let le : e < length given = omega (arith, barred_count) in
         elim (cases_Bool (is_barred mesh barred e)) [
           | inl bar ↦ let is = shut_at e le bar in inr (omega arith)
-          | inr free ↦
-              let is = open_at e le free in
-              let most_is = all e le in
-              inl (omega arith)
+          | inr free ↦ subst (λ x. P x ⊎ (radius < x)) (sym (open_at e le free)) (all e le)
         ]
 
-    pub up_to_open : (radius most : ℕ) → AreUpTo given most → barred_lengths mesh barred given ≡ given → AreUpToOrPast (barred_lengths mesh barred given) radius most
-    up_to_open radius most all same = rw same (λ e l. inl (all e l))
-
-    pub up_to_longest : (radius : ℕ) → AreLengths given → AreUpToOrPast (barred_lengths mesh barred given) radius longest
-    up_to_longest radius are e l = inl (short_lengths (barred_lengths mesh barred given) (are_lengths are) e)
+    pub even_past : (radius : ℕ) (barring : Bool) → (barring ≡ false → barred_lengths mesh barred given ≡ given) →
+        (radius < longest) ⊎ (barring ≡ false) → (even : Option ℕ) → IsEvenness given even → MatchOption even ⊤ (AreEvenOrPast (barred_lengths mesh barred given) radius)
+    even_past radius barring same known None is = tt
+    even_past radius barring same known (Some size) is = still_past (λ x. x ≡ size) radius barring same known (λ e l. inl (is e l))
 
   pub none_barred : (n : ℕ) → barred_lengths mesh (replicate n false) given ≡ given
   none_barred n = all_open (replicate n false) (λ e l. or_from (slice_index_or (replicate n false) (ends mesh e).0 false) (slice_index_or (replicate n false) (ends mesh e).1 false)
@@ -145,6 +144,13 @@ module _ (mesh : Mesh) (given : List ℕ) where
         let x = link_in links k in
         rw (are.measured k l, ← link_barred k l) (sym (barred_at barred x.edge (edge_in k l)))
 
+    pub length_least : AreLengths given → (k : ℕ) → k < length links →
+        (link_in links k).length ≤ edge_length (barred_lengths mesh barred given) (link_in links k).edge
+    length_least fit k l = elim (barred_links.measured k l) [
+      | inl same ↦ omega (arith, same)
+      | inr bar ↦ let most = short_lengths given fit (link_in links k).edge in omega (arith, bar, most, are.measured k l)
+    ]
+
   module _ (barred : List Bool) (rows : List (List Link)) (are : AreGiven mesh given rows) where
     pub barred_row : (v : ℕ) → v < mesh.vertices → AreLinksAt mesh (barred_lengths mesh barred given) v (slice_index_or rows v [])
     barred_row v l = barred_links barred v (slice_index_or rows v []) (are.at v l) are.as_many
@@ -159,6 +165,10 @@ module _ (mesh : Mesh) (given : List ℕ) where
       at = barred_row;
     }
 
+    pub row_inside : (v : ℕ) → v < mesh.vertices → All (λ (x : Link). x.to < mesh.vertices) (slice_index_or rows v [])
+    row_inside v l = All-from_get_or (λ (x : Link). x.to < mesh.vertices) (slice_index_or rows v []) (record { to = 0; length = 0; edge = 0 })
+        (link_to_in mesh (barred_lengths mesh barred given) v (slice_index_or rows v []) (barred_row v l))
+
     pub row_lengths : (v : ℕ) → v < mesh.vertices → (k : ℕ) → k < length (slice_index_or rows v []) →
         length_past barred (slice_index_or barred v false) (link_in (slice_index_or rows v []) k)
         ≡ edge_length (barred_lengths mesh barred given) (link_in (slice_index_or rows v []) k).edge
@@ -171,4 +181,4 @@ module _ (mesh : Mesh) (given : List ℕ) where
 
       pub link_length : length_past barred (slice_index_or barred v false) x ≡ edge_length (barred_lengths mesh barred given) x.edge
       link_length = item_with mesh (barred_lengths mesh barred given) v (slice_index_or rows v []) (barred_row v v_in) there.0 there.1 x (sym there.2)
-          (length_past barred (slice_index_or barred v false)) (λ y. edge_length (barred_lengths mesh barred given) y.edge) (row_lengths v v_in)
+          (λ y. length_past barred (slice_index_or barred v false) y ≡ edge_length (barred_lengths mesh barred given) y.edge) (row_lengths v v_in)

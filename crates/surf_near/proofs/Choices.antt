@@ -1,11 +1,6 @@
 -- The choice among the links of a vertex, link by link.
-use Rattle.surf_surfaces.proofs.Common.{ℕ, ◌<◌, ◌≤◌, ◌≡◌, ◌≢◌, ◌+◌, ◌⊎◌, min, refl, sym, ap, ◌∙◌, subst, arith, inl, inr, List, length, set, get_or-set_same, get_or-set_other, cases_eq, cases_lt, Graph}
-use Rattle.surf_mesh.specs.Links.{link_at, IsRow}
-use Rattle.surf_base.specs.Tables.{nobody, at}
-use Rattle.surf_tree.specs.Searches.{IsTight}
+use Rattle.surf_near.proofs.Common.{ℕ, ◌<◌, ◌≤◌, ◌≡◌, ◌≢◌, ◌+◌, ◌⊎◌, min, refl, sym, ap, ◌∙◌, subst, arith, inl, inr, List, length, set, get_or-set_same, get_or-set_other, cases_eq, cases_lt, Graph, link_at, IsRow, nobody, at, IsTight, never, IsChoice}
 use Rattle.surf_tree.proofs.Choosing.{chosen_tight}
-use Rattle.surf_near.specs.Near.{never}
-use Rattle.surf_near.specs.Searching.{IsChoice}
 
 -- the lesser of two numbers
 pub min_parts : (a b m : ℕ) → m ≡ min a b → (m ≤ a) × (m ≤ b) × ((m ≡ a) ⊎ (m ≡ b))
@@ -71,28 +66,31 @@ module _ (g : Graph) (len dist least : ℕ → ℕ) (v : ℕ) (links : List (ℕ
         now i same tight = subst (λ (x : ℕ × ℕ). dist x.0 + len x.1 ≡ dist v) (ap (link_at links) same ∙ is) tight.is
 
     -- a tight neighbour is taken into account
-    pub choice_take : (p2 e2 m2 : ℕ) → dist w + len f ≡ dist v → p2 ≤ p → p2 ≤ w →
-        (((p2 ≡ p) × (e2 ≡ e)) ⊎ ((p2 ≡ w) × (e2 ≡ f))) → m2 ≤ m → m2 ≤ least w → ((m2 ≡ m) ⊎ (m2 ≡ least w)) →
-        IsChoiceSome g len dist least v links (n + 1) p2 e2 m2
-    choice_take p2 e2 m2 is_tight p_old p_new p_is m_old m_new m_is = record {
-      parent = λ i li tight. elim (cases_eq i n) [
-        | inl same ↦ subst (λ (x : ℕ × ℕ). p2 ≤ x.0) (sym (ap (link_at links) same ∙ is)) p_new
-        | inr ne ↦ let was : p ≤ (link_at links i).0 = some.parent i (omega arith) tight in omega (arith, was, p_old)
-      ];
-      tight = λ ne. elim p_is [
-        | inl (same, same_e) ↦ rw (same, same_e) (some.tight (λ none. ne (same ∙ none)))
-        | inr (same, same_e) ↦ rw (same, same_e) (chosen_tight g len dist v links row n w f l is is_tight)
-      ];
-      own = let was : m ≤ v = some.own in omega (arith, was, m_old);
-      before = λ i li tight. elim (cases_eq i n) [
-        | inl same ↦ subst (λ (x : ℕ × ℕ). m2 ≤ least x.0) (sym (ap (link_at links) same ∙ is)) m_new
-        | inr ne ↦ let was : m ≤ least (link_at links i).0 = some.before i (omega arith) tight in omega (arith, was, m_old)
-      ];
-      one = elim m_is [
-        | inl same ↦ rw same some.one
-        | inr same ↦ let t = chosen_tight g len dist v links row n w f l is is_tight in inr (w, f, t.0, t.1, same)
-      ];
-    }
+    pub choice_take : (p2 e2 m2 : ℕ) → dist w + len f ≡ dist v → (w < p → (p2 ≡ w) × (e2 ≡ f)) → (p ≤ w → (p2 ≡ p) × (e2 ≡ e)) →
+        m2 ≡ min m (least w) → IsChoiceSome g len dist least v links (n + 1) p2 e2 m2
+    choice_take p2 e2 m2 is_tight lower higher m_is =
+        let (m_old, m_new, m_one) = min_parts m (least w) m2 m_is in
+        let here = chosen_tight g len dist v links row n w f l is is_tight in
+        let parts : (p2 ≤ p) × (p2 ≤ w) = elim (cases_lt w p) [
+          | inl low ↦ let same = (lower low).0 in (omega arith, omega arith)
+          | inr high ↦ let same = (higher high).0 in (omega arith, omega arith)
+        ] in
+        record {
+          parent = λ i li tight. elim (cases_eq i n) [
+            | inl same ↦ subst (λ (x : ℕ × ℕ). p2 ≤ x.0) (sym (ap (link_at links) same ∙ is)) parts.1
+            | inr ne ↦ let was : p ≤ (link_at links i).0 = some.parent i (omega arith) tight in omega (arith, was, parts.0)
+          ];
+          tight = λ ne. elim (cases_lt w p) [
+            | inl low ↦ rw ((lower low).0, (lower low).1) here
+            | inr high ↦ rw ((higher high).0, (higher high).1) (some.tight (λ none. ne ((higher high).0 ∙ none)))
+          ];
+          own = let was : m ≤ v = some.own in omega (arith, was, m_old);
+          before = λ i li tight. elim (cases_eq i n) [
+            | inl same ↦ subst (λ (x : ℕ × ℕ). m2 ≤ least x.0) (sym (ap (link_at links) same ∙ is)) m_new
+            | inr ne ↦ let was : m ≤ least (link_at links i).0 = some.before i (omega arith) tight in omega (arith, was, m_old)
+          ];
+          one = elim m_one [ inl same ↦ rw same some.one | inr same ↦ inr (w, f, here.0, here.1, same) ];
+        }
 
 -- Another node, which was not settled, gets a distance that is no less
 module _ (g : Graph) (len : ℕ → ℕ) (positive : (e : ℕ) → e < g.edges → 1 ≤ len e) (dist : List ℕ) (v d : ℕ) (l : v < length dist)

@@ -9,3 +9,4 @@ pub mod Ties
 pub mod Turns
 pub mod Queues
 pub mod NearTrees
+pub mod Common

@@ -1,15 +1,7 @@
 -- The links of a vertex are the edges there.
-use Rattle.std.proofs.Common.{◌≡◌, ℕ, ◌<◌, ◌≤◌, ◌^◌, ◌⊎◌, true, ◌&&◌, ◌||◌, eqb, eq-eqb, List, length, map, get_or, refl, sym, ap, ◌∙◌, subst, arith, inl, inr}
-use Rattle.surf_surfaces.proofs.Common.{cases_lt, eqb-true, or_cases, or_left, or_right, and_parts, and_from, get_or-map, get_or_default, get_or_past, length-map, map-map, Contains, joins, primal, Mesh, IsMesh, edge_count, ends, edge_length, cells_of}
+use Rattle.surf_near.proofs.Common.{◌≡◌, ℕ, ◌<◌, ◌≤◌, ◌^◌, ◌⊎◌, true, ◌&&◌, ◌||◌, eqb, eq-eqb, List, length, map, get_or, refl, sym, ap, ◌∙◌, subst, arith, inl, inr, cases_lt, eqb-true, or_cases, or_left, or_right, and_parts, and_from, get_or-map, get_or_default, get_or_past, length-map, map-map, Contains, joins, primal, Mesh, IsMesh, edge_count, ends, edge_length, cells_of, link_at, IsRow, other_of, edge_link, edge_row, cells_few, longest, short_lengths, Link, LinkTables, weight_of, ends_of, link_in, links_of, IsLinkAt, AreLinksAt, AreLinks, AreGivenAt, AreUpToOrPast, AreEvenOrPast}
 use Rattle.surf_surfaces.proofs.meshes.PairLaws.{pair_same}
 use Rattle.surf_soup.specs.Ring.{AreEdgesAt}
-use Rattle.surf_mesh.specs.Links.{link_at, IsRow, other_of, edge_link}
-use Rattle.surf_mesh.proofs.LinkLaws.{edge_row, cells_few}
-use Rattle.surf_lengths.specs.Lengths.{longest}
-use Rattle.surf_tree.proofs.LengthLaws.{short_lengths}
-use Rattle.surf_near.specs.declared.links.Link.{Link}
-use Rattle.surf_near.specs.Links.{LinkTables, weight_of, ends_of, link_in, links_of, IsLinkAt, AreLinksAt, AreLinks, AreGivenAt, AreUpToOrPast}
-use Rattle.surf_tree.specs.Queues.{AreEven}
 
 -- an edge as a link of one of its ends
 abbrev pub link_over : Mesh → List ℕ → ℕ → ℕ → Link
@@ -105,9 +97,9 @@ module _ (mesh : Mesh) (lengths : List ℕ) (v : ℕ) (links : List Link) (are :
   pub item_edge_in : x.edge < edge_count mesh
   item_edge_in = subst (λ (y : Link). y.edge < edge_count mesh) item_is (link_edge_in mesh lengths v links are k l)
 
-  -- a number that the list's links have is the read one's
-  pub item_with : (f g : Link → ℕ) → ((n : ℕ) → n < length links → f (link_in links n) ≡ g (link_in links n)) → f x ≡ g x
-  item_with f g same = subst (λ (y : Link). f y ≡ g y) item_is (same k l)
+  -- what holds of the list's links holds of the read one
+  pub item_with : (P : Link → Type 0) → ((n : ℕ) → n < length links → P (link_in links n)) → P x
+  item_with P all = subst P item_is (all k l)
 
 pub item_there : (net : LinkTables) (v : ℕ) (links : List Link) → links ≡ links_of net v → (k : ℕ) → k < length links →
     (x : Link) → x ≡ get_or links k x → IsLinkAt net v x
@@ -127,8 +119,9 @@ module _ (net : LinkTables) (are : AreLinks net.mesh net.lengths net.rows) where
   pub links_positive : (e : ℕ) → e < edge_count net.mesh → 1 ≤ weight_of net e
   links_positive e l = (are.are_lengths e 0 (omega (arith, l, are.as_many))).positive
 
-  pub links_even : (size : ℕ) → AreEven net.lengths size → (e : ℕ) → e < edge_count net.mesh → weight_of net e ≡ size
-  links_even size even e l = even e (omega (arith, l, are.as_many))
+  pub links_even : (radius size : ℕ) → AreEvenOrPast net.lengths radius size → (e : ℕ) → e < edge_count net.mesh →
+      (weight_of net e ≡ size) ⊎ (radius < weight_of net e)
+  links_even radius size even e l = even e (omega (arith, l, are.as_many))
 
 -- an edge that is no longer than the radius is no longer than the step, also where there is no such edge
 pub up_to_within : (lengths : List ℕ) (radius most : ℕ) → AreUpToOrPast lengths radius most → (e : ℕ) → edge_length lengths e ≤ radius →

@@ -1,16 +1,10 @@
 -- What a search of a mesh has found as far as a radius is there in each tree of shortest walks.
-use Rattle.std.proofs.Common.{◌≡◌, ◌≢◌, ℕ, ◌+◌, ◌*◌, ◌^◌, ◌<◌, ◌≤◌, List, length, take, refl, sym, ap, ◌∙◌, subst, arith, inl, inr, get_or, Contains, eq-eqb, ne_eqb}
-use Rattle.surf_surfaces.proofs.Common.{cases_eq, cases_lt, le-leb, lt-leb, false≢true, get_or-take, length-take-le, Contains-get_or, primal, Tree, joins_turned, joined_below, Mesh, pair, edges, ends, IsSurface, edge_length, edge_number, place_of, ArePositive, cells_of, IsShortestTree, IsTight as IsTightIn}
+use Rattle.surf_near.proofs.Common.{◌≡◌, ◌≢◌, ℕ, ◌+◌, ◌*◌, ◌^◌, ◌<◌, ◌≤◌, List, length, take, refl, sym, ap, ◌∙◌, subst, arith, inl, inr, get_or, Contains, eq-eqb, ne_eqb, cases_eq, cases_lt, le-leb, lt-leb, false≢true, get_or-take, length-take-le, Contains-get_or, primal, Tree, joins_turned, joined_below, Mesh, pair, edges, ends, IsSurface, edge_length, edge_number, place_of, ArePositive, cells_of, IsShortestTree, longest, at, IsTight, Tables, NearTables, never, IsNearTo, IsNear, IsFound}
+use Rattle.surf_surfaces.proofs.Common.{IsTight as IsTightIn}
 use Rattle.surf_surfaces.proofs.meshes.EdgeLaws.{place_of-among, place_of-ends, among-contains, contains_from_among}
 use Rattle.surf_surfaces.proofs.meshes.CellLaws.{surfaces_are_cells, ends_below, joins_from, joins_is}
 use Rattle.surf_surfaces.proofs.walks.GraphWalkLaws.{joined, from_joined}
 use Rattle.surf_surfaces.proofs.walks.ShortestTreeLaws.{shortest_is_tree, shortest_is_shortest}
-use Rattle.surf_lengths.specs.Lengths.{longest}
-use Rattle.surf_base.specs.Tables.{at}
-use Rattle.surf_tree.specs.Searches.{IsTight}
-use Rattle.surf_near.specs.declared.tables.Tables.{Tables}
-use Rattle.surf_near.specs.Near.{NearTables, never, IsNearTo, IsNear}
-use Rattle.surf_near.specs.Searching.{IsFound}
 use Rattle.surf_near.proofs.Reaching.{same_rank, settled_near}
 
 -- what a desk shows of its tables

@@ -1,11 +1,5 @@
 -- Offering the neighbours of a node as far as a radius, link by link.
-use Rattle.surf_surfaces.proofs.Common.{ℕ, ◌<◌, ◌≤◌, ◌≡◌, ◌≢◌, ◌+◌, arith, List, length, set, Some, refl, Graph}
-use Rattle.surf_heap.specs.Entries.{Entries, entry_of, lesser}
-use Rattle.surf_mesh.specs.Links.{link_at, IsRow}
-use Rattle.surf_tree.proofs.SearchWords.{IsOfferedSome}
-use Rattle.surf_tree.proofs.Offering.{offered_none, link_skip, link_more, offered_all}
-use Rattle.surf_near.specs.Near.{never}
-use Rattle.surf_near.specs.Searching.{IsTrimmed, OffersNear}
+use Rattle.surf_near.proofs.Common.{ℕ, ◌<◌, ◌≤◌, ◌≡◌, ◌≢◌, ◌+◌, arith, List, length, set, Some, refl, Graph, Entries, entry_of, lesser, link_at, IsRow, IsOfferedSome, offered_none, link_skip, link_more, offered_all, never, IsTrimmed, OffersNear}
 use Rattle.surf_near.proofs.Trimming.{trim_offered, trim_passed}
 
 -- the first n of them have been offered

@@ -1,17 +1,12 @@
--- The list of settled nodes as a queue, where all edges have one length.
-use Rattle.surf_surfaces.proofs.Common.{ℕ, suc, ◌<◌, ◌≤◌, ◌≡◌, ◌≢◌, ◌+◌, ◌*◌, true, sym, ap, ◌∙◌, subst, arith, inl, inr, List, length, set, eqb, get_or-set_same, get_or-set_other, cases_eq, count_below, Graph, joins, joins_turned}
-use Rattle.std.proofs.Math.ListN.{length-set}
-use Rattle.surf_lengths.specs.Lengths.{longest}
-use Rattle.surf_mesh.specs.Links.{link_at, IsRow}
-use Rattle.surf_base.specs.Tables.{at}
-use Rattle.surf_tree.specs.Searches.{IsReached}
+-- The list of settled nodes as a queue, where all edges have one length but those that lead past the radius.
+use Rattle.surf_near.proofs.Common.{ℕ, suc, ◌<◌, ◌≤◌, ◌≡◌, ◌≢◌, ◌+◌, ◌*◌, ◌⊎◌, true, sym, ap, ◌∙◌, subst, arith, inl, inr, List, length, set, eqb, get_or-set_same, get_or-set_other, cases_eq, count_below, Graph, joins, joins_turned, length-set, longest, link_at, IsRow, at, IsReached, one_less, all_free, Tables, never, IsListed, IsChosenAt, IsBlank, IsFound, IsQueue, IsLooked}
 use Rattle.surf_tree.proofs.Choosing.{chosen_in}
-use Rattle.surf_tree.proofs.Offering.{one_less, all_free}
-use Rattle.surf_near.specs.declared.tables.Tables.{Tables}
-use Rattle.surf_near.specs.Near.{never}
-use Rattle.surf_near.specs.Searching.{IsListed, IsChosenAt, IsBlank, IsFound, IsQueue, IsLooked}
 use Rattle.surf_near.proofs.Turns.{list_more}
 use Rattle.surf_near.proofs.Choices.{IsChoiceSome, choice_skip, choice_all, choice_stays, some_stays, chosen_kept}
+
+-- a link leads past the radius, or its neighbour is settled and no farther than it leads
+abbrev pub IsPassed : (ℕ → ℕ) → ℕ → ℕ → List ℕ → ℕ × ℕ → Type 0
+IsPassed len radius d dist x = d + len x.1 ≤ radius → (at dist x.0 ≢ never) × (at dist x.0 ≤ d + len x.1)
 
 -- the links before a place have been looked at
 pub record IsLooking (g : Graph) (len : ℕ → ℕ) (size radius : ℕ) (t : Tables) (place v d : ℕ) (links : List (ℕ × ℕ)) (n p e m : ℕ) : Type 0 where
@@ -19,12 +14,11 @@ pub record IsLooking (g : Graph) (len : ℕ → ℕ) (size radius : ℕ) (t : Ta
   pub here : place < t.count
   pub node : at t.order.items place ≡ v
   pub distance : at t.distance.items v ≡ d
-  pub near : (i : ℕ) → i < n → d + size ≤ radius →
-      (at t.distance.items (link_at links i).0 ≢ never) × (at t.distance.items (link_at links i).0 ≤ d + size)
+  pub near : (i : ℕ) → i < n → IsPassed len radius d t.distance.items (link_at links i)
   pub choice : IsChoiceSome g len (at t.distance.items) (at t.least.items) v links n p e m
 
 module _ (g : Graph) (len : ℕ → ℕ) (size radius : ℕ) (small : g.nodes ≤ longest) (positive : (e : ℕ) → e < g.edges → 1 ≤ len e)
-    (even : (e : ℕ) → e < g.edges → len e ≡ size) (fits : size ≤ longest) where
+    (even : (e : ℕ) → e < g.edges → (len e ≡ size) ⊎ (radius < len e)) (fits : size ≤ longest) where
   -- a node of the list is one, and its distance is short
   pub queue_in : (t : Tables) (place : ℕ) → IsQueue g len size radius t place → (i : ℕ) → i < t.count →
       (at t.order.items i < g.nodes) × (at t.distance.items (at t.order.items i) + longest ≤ g.nodes * longest)
@@ -48,7 +42,7 @@ module _ (g : Graph) (len : ℕ → ℕ) (size radius : ℕ) (small : g.nodes �
   -- a node that is listed
   module _ (t : Tables) (place v d : ℕ) (q : IsQueue g len size radius t place) (here : place < t.count)
       (node : at t.order.items place ≡ v) (distance : at t.distance.items v ≡ d) (t2 : Tables) (w e : ℕ) (w_in : w < g.nodes)
-      (e_in : e < g.edges) (join : joins g v w e ≡ true) (free : at t.distance.items w ≡ never) (near : d + size ≤ radius)
+      (e_in : e < g.edges) (join : joins g v w e ≡ true) (free : at t.distance.items w ≡ never) (even_here : len e ≡ size) (near : d + size ≤ radius)
       (order_is : t2.order.items ≡ set t.order.items t.count w) (count_is : t2.count ≡ t.count + 1)
       (distance_is : t2.distance.items ≡ set t.distance.items w (d + size)) (parent_is : t2.parent ≡ t.parent)
       (up_is : t2.up ≡ t.up) (least_is : t2.least ≡ t.least) where
@@ -173,7 +167,7 @@ module _ (g : Graph) (len : ℕ → ℕ) (size radius : ℕ) (small : g.nodes �
               edge_in = e_in;
               settled = λ none. absurd (omega (arith, none, v_is, distance, d_short, small));
               joined = joins_turned g v w e join;
-              is = omega (arith, v_is, distance, even e e_in);
+              is = omega (arith, v_is, distance, even_here);
             })
         | inr ne ↦
             let li : i < t.count = omega (arith, l, count_is) in
@@ -210,14 +204,20 @@ module _ (g : Graph) (len : ℕ → ℕ) (size radius : ℕ) (small : g.nodes �
     loose : at t.distance.items w ≡ never → at t.distance.items w + len f ≢ at t.distance.items v
     loose free tight = absurd (omega (arith, free, tight, looking.distance, v_short, small))
 
+    near_more : (P : ℕ × ℕ → Type 0) → ((i : ℕ) → i < n → P (link_at links i)) → P (w, f) → (i : ℕ) → i < n + 1 → P (link_at links i)
+    near_more P old last i li = elim (cases_eq i n) [
+      | inl same ↦ subst P (sym (ap (link_at links) same ∙ is)) last
+      | inr ne ↦ old i (omega arith)
+    ]
+
     -- a free one past the radius
-    pub looking_passes : at t.distance.items w ≡ never → radius < d + size → IsLooking g len size radius t place v d links (n + 1) p e m
+    pub looking_passes : at t.distance.items w ≡ never → radius < d + len f → IsLooking g len size radius t place v d links (n + 1) p e m
     looking_passes free past = record {
       queue = looking.queue;
       here = looking.here;
       node = looking.node;
       distance = looking.distance;
-      near = λ i li close. absurd (omega arith);
+      near = near_more (IsPassed len radius d t.distance.items) looking.near (λ close. absurd (omega arith));
       choice = choice_skip g len (at t.distance.items) (at t.least.items) v links row n w f l is p e m looking.choice (loose free);
     }
 
@@ -229,47 +229,42 @@ module _ (g : Graph) (len : ℕ → ℕ) (size radius : ℕ) (small : g.nodes �
       here = looking.here;
       node = looking.node;
       distance = looking.distance;
-      near = λ i li close. elim (cases_eq i n) [
-        | inl same ↦
+      near = near_more (IsPassed len radius d t.distance.items) looking.near (λ close. elim (even f other.1) [
+        | inl size_is ↦
             let (j, lj, at_j) = looking.queue.listed.all w other.0 settled in
             let span = looking.queue.span j place lj (omega arith) looking.here in
             let first : at t.distance.items (at t.order.items j) ≡ at t.distance.items w = ap (at t.distance.items) at_j in
             let second : at t.distance.items (at t.order.items place) ≡ d = ap (at t.distance.items) looking.node ∙ looking.distance in
-            subst (λ (x : ℕ × ℕ). (at t.distance.items x.0 ≢ never) × (at t.distance.items x.0 ≤ d + size)) (sym (ap (link_at links) same ∙ is))
-            (settled, omega (arith, span, first, second))
-        | inr ne ↦ looking.near i (omega arith) close
-      ];
+            (settled, omega (arith, span, first, second, size_is))
+        | inr past ↦ absurd (omega (arith, close, past))
+      ]);
       choice = choice;
     }
 
     -- a free one within the radius, which is listed
-    pub looking_lists : (t2 : Tables) → at t.distance.items w ≡ never → d + size ≤ radius →
+    pub looking_lists : (t2 : Tables) → at t.distance.items w ≡ never → len f ≡ size → d + size ≤ radius →
         t2.order.items ≡ set t.order.items t.count w → t2.count ≡ t.count + 1 → t2.distance.items ≡ set t.distance.items w (d + size) →
         t2.parent ≡ t.parent → t2.up ≡ t.up → t2.least ≡ t.least → IsLooking g len size radius t2 place v d links (n + 1) p e m
-    looking_lists t2 free close order_is count_is distance_is parent_is up_is least_is =
+    looking_lists t2 free size_is close order_is count_is distance_is parent_is up_is least_is =
         let w_room : w < length t.distance.items = omega (arith, other.0, looking.queue.room.distance) in
         let apart : v ≢ w = λ same. absurd (omega (arith, ap (at t.distance.items) same, free, looking.distance, v_short, small)) in
         let skipped = choice_skip g len (at t.distance.items) (at t.least.items) v links row n w f l is p e m looking.choice (loose free) in
         let stays = some_stays g len positive t.distance.items w (d + size) w_room free v (omega (arith, looking.distance))
         (omega (arith, looking.distance, v_short, small)) apart (at t.least.items) links (n + 1) p e m skipped in
         record {
-          queue = queue_more t place v d looking.queue looking.here looking.node looking.distance t2 w f other.0 other.1 other.2 free close
+          queue = queue_more t place v d looking.queue looking.here looking.node looking.distance t2 w f other.0 other.1 other.2 free size_is close
               order_is count_is distance_is parent_is up_is least_is;
           here = omega (arith, looking.here, count_is);
           node = ap (λ xs. at xs place) order_is ∙ get_or-set_other t.order.items t.count place w 0 (λ same. absurd (omega (arith, same, looking.here))) ∙ looking.node;
           distance = ap (λ xs. at xs v) distance_is ∙ get_or-set_other t.distance.items w v (d + size) 0 apart ∙ looking.distance;
-          near = λ i li within. elim (cases_eq i n) [
-            | inl same ↦
-                let there : at t2.distance.items w ≡ d + size = ap (λ xs. at xs w) distance_is ∙ get_or-set_same t.distance.items w (d + size) 0 w_room in
-                subst (λ (x : ℕ × ℕ). (at t2.distance.items x.0 ≢ never) × (at t2.distance.items x.0 ≤ d + size)) (sym (ap (link_at links) same ∙ is))
-                ((λ none. absurd (omega (arith, none, there, v_short, fits, small))), omega (arith, there))
-            | inr ne ↦
-                let was = looking.near i (omega arith) within in
-                let u = (link_at links i).0 in
-                let away : u ≢ w = λ same. was.0 (ap (at t.distance.items) same ∙ free) in
-                let kept : at t2.distance.items u ≡ at t.distance.items u = ap (λ xs. at xs u) distance_is ∙ get_or-set_other t.distance.items w u (d + size) 0 away in
-                rw kept was
-          ];
+          near =
+              let there : at t2.distance.items w ≡ d + size = ap (λ xs. at xs w) distance_is ∙ get_or-set_same t.distance.items w (d + size) 0 w_room in
+              near_more (IsPassed len radius d t2.distance.items) (λ i li within.
+              let was = looking.near i li within in
+              let u = (link_at links i).0 in
+              let away : u ≢ w = λ same. was.0 (ap (at t.distance.items) same ∙ free) in
+              let kept : at t2.distance.items u ≡ at t.distance.items u = ap (λ xs. at xs u) distance_is ∙ get_or-set_other t.distance.items w u (d + size) 0 away in
+              rw kept was) (λ within. ((λ none. absurd (omega (arith, none, there, v_short, fits, small))), omega (arith, there, size_is)));
           choice = rw (distance_is, least_is) stays;
         }
 
@@ -284,8 +279,7 @@ module _ (g : Graph) (len : ℕ → ℕ) (size radius : ℕ) (small : g.nodes �
         choice = rw looking.node (choice_all g len (at t.distance.items) (at t.least.items) v links row n p e m all looking.choice);
         near = λ w f w_in f_in join close.
             let (i, li, is) = row.whole f w f_in (rw looking.node at join) in
-            let found = looking.near i (omega arith) (omega (arith, d_is, close)) in
-            rw d_is (subst (λ (x : ℕ × ℕ). (at t.distance.items x.0 ≢ never) × (at t.distance.items x.0 ≤ d + size)) is found);
+            rw d_is (subst (IsPassed len radius d t.distance.items) is (looking.near i (omega arith)) (omega (arith, d_is, close)));
       }
 
   -- the choice is kept, and the next node follows
@@ -406,10 +400,7 @@ module _ (g : Graph) (len : ℕ → ℕ) (size radius : ℕ) (small : g.nodes �
       fits = queue_short t t.count q;
       near = λ u w f u_in w_in f_in join settled close.
           let (i, li, is) = q.listed.all u u_in settled in
-          let size_is = even f f_in in
-          let found = q.near i w f li w_in f_in (rw is join) (rw is (omega (arith, close, size_is))) in
-          let bound : at t.distance.items w ≤ at t.distance.items u + size = rw is at found.1 in
-          (found.0, omega (arith, bound, size_is));
+          rw is at (q.near i w f li w_in f_in (rw is join) (rw is close));
       tight = λ w w_in ne settled.
           let (i, li, is) = q.listed.all w w_in settled in
           let pos : 0 < i = elim (cases_eq i 0) [

@@ -1,7 +1,5 @@
 -- What a search as far as a radius has reached is what is so near in the tree of shortest walks.
-use Rattle.surf_surfaces.proofs.Common.{ℕ, zero, suc, ◌<◌, ◌≤◌, ◌≡◌, ◌≢◌, ◌+◌, sym, ap, ◌∙◌, arith, inl, inr, cases_eq, Graph, Tree, IsTree, IsShortest, joins_turned, step_short}
-use Rattle.surf_near.specs.Near.{never}
-use Rattle.surf_near.specs.Searching.{IsReachedNear}
+use Rattle.surf_near.proofs.Common.{ℕ, zero, suc, ◌<◌, ◌≤◌, ◌≡◌, ◌≢◌, ◌+◌, sym, ap, ◌∙◌, arith, inl, inr, cases_eq, Graph, Tree, IsTree, IsShortest, joins_turned, step_short, never, IsReachedNear}
 
 module _ (g : Graph) (len : ℕ → ℕ) (base radius : ℕ) (dist : ℕ → ℕ) (tree : Tree) (is_tree : IsTree g tree)
     (short : IsShortest g len tree) (root : tree.root ≡ base) (positive : (e : ℕ) → e < g.edges → 1 ≤ len e)

@@ -1,10 +1,8 @@
 -- How many links all vertices have.
-use Rattle.std.proofs.Common.{◌≡◌, ◌≢◌, ℕ, zero, suc, ◌+◌, ◌*◌, ◌<◌, ◌≤◌, Bool, true, cond, ◌||◌, eqb, eq-eqb, ne_eqb, List, length, get_or, refl, sym, ◌∙◌, arith, inl, inr}
+use Rattle.surf_near.proofs.Common.{◌≡◌, ◌≢◌, ℕ, zero, suc, ◌+◌, ◌*◌, ◌<◌, ◌≤◌, Bool, true, cond, ◌||◌, eqb, eq-eqb, ne_eqb, List, length, get_or, refl, sym, ◌∙◌, arith, inl, inr, cases_Bool, cases_eq, cases_lt, Mesh, edge_count, ends, touches, sum_below, count_below, degree}
 use Rattle.std.proofs.Math.Numerals.{add-one}
-use Rattle.surf_surfaces.proofs.Common.{cases_Bool, cases_eq, cases_lt, Mesh, edge_count, ends, touches, sum_below, count_below}
 use Rattle.surf_z2.proofs.Sums.{sum_below-swap, sum_below-const, count_below-all, count_below-paired}
 use Rattle.surf_soup.specs.Ring.{AreEdgesAt}
-use Rattle.surf_near.specs.Links.{degree}
 
 -- a row is as long as there are edges at its vertex
 pub row_length : (mesh : Mesh) (v : ℕ) (list : List ℕ) → AreEdgesAt mesh v list → length list ≡ degree mesh v

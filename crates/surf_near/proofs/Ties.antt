@@ -1,11 +1,5 @@
 -- Ties by which one place comes first among those that have its key. A search doesn't look at ties.
-use Rattle.std.proofs.Common.{ℕ, ◌<◌, ◌≤◌, ◌≡◌, ◌≢◌, refl, sym, ap, ◌∙◌, arith, inl, inr, length, set, Option, Some, None, map, eqb, if◌then◌else◌, eq-eqb, ne_eqb, get_or-set_same, get_or-set_other}
-use Rattle.std.proofs.Math.ListN.{length-set}
-use Rattle.surf_surfaces.proofs.Common.{cases_eq, cases_lt, get_or_past, get_or-map-range_with_len, length-map-range_with_len, range_with_len, Graph}
-use Rattle.surf_heap.specs.Entries.{Entries, entry_of, IsLeastEntry}
-use Rattle.surf_buckets.specs.Buckets.{IsNearestEntry}
-use Rattle.surf_tree.specs.Searches.{HasKey, IsOffered}
-use Rattle.surf_tree.proofs.SearchWords.{IsSearch}
+use Rattle.surf_near.proofs.Common.{ℕ, ◌<◌, ◌≤◌, ◌≡◌, ◌≢◌, refl, sym, ap, ◌∙◌, arith, inl, inr, length, set, Option, Some, None, map, eqb, if◌then◌else◌, eq-eqb, ne_eqb, get_or-set_same, get_or-set_other, length-set, cases_eq, cases_lt, get_or_past, get_or-map-range_with_len, length-map-range_with_len, range_with_len, Graph, Entries, entry_of, IsLeastEntry, IsNearestEntry, HasKey, IsOffered, IsSearch}
 
 with_tie : ℕ → Option (ℕ × ℕ) → Option (ℕ × ℕ)
 with_tie tie None = None

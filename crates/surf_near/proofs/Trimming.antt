@@ -1,11 +1,6 @@
 -- A fringe that has what a wider one has, as far as a radius.
-use Rattle.std.proofs.Common.{ℕ, ◌<◌, ◌≤◌, ◌≡◌, refl, sym, ap, ◌∙◌, arith, inl, inr, length, set, Option, Some, None, ◌&&◌, eqb, ltb, get_or-set_same, get_or-set_other, ne_eqb}
-use Rattle.std.proofs.Math.ListN.{length-set}
-use Rattle.surf_surfaces.proofs.Common.{cases_eq, cases_lt, cases_Bool, lt-ltb, le-ltb, get_or_past}
-use Rattle.surf_heap.specs.Entries.{Entries, entry_of, lesser}
-use Rattle.surf_buckets.specs.Buckets.{IsNearestEntry}
+use Rattle.surf_near.proofs.Common.{ℕ, ◌<◌, ◌≤◌, ◌≡◌, refl, sym, ap, ◌∙◌, arith, inl, inr, length, set, Option, Some, None, ◌&&◌, eqb, ltb, get_or-set_same, get_or-set_other, ne_eqb, length-set, cases_eq, cases_lt, cases_Bool, lt-ltb, le-ltb, get_or_past, Entries, entry_of, lesser, IsNearestEntry, IsTrimmed}
 use Rattle.surf_tree.proofs.Settling.{no_entry}
-use Rattle.surf_near.specs.Searching.{IsTrimmed}
 
 -- a lesser pair has a key between what it was made of
 bounds : (key k t : ℕ) → ((lesser (Some (k, t)) key 0).0 ≤ key) × (key ≤ k → key ≤ (lesser (Some (k, t)) key 0).0)

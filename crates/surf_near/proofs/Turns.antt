@@ -1,17 +1,6 @@
 -- One turn of a search as far as a radius, its beginning and its end.
-use Rattle.surf_surfaces.proofs.Common.{ℕ, ◌<◌, ◌≤◌, ◌≡◌, ◌≢◌, ◌+◌, ◌*◌, refl, sym, ap, ◌∙◌, subst, arith, inl, inr, List, length, set, Some, None, eqb, get_or-set_same, get_or-set_other, cases_eq, count_below, Graph}
-use Rattle.std.proofs.Math.ListN.{length-set}
-use Rattle.surf_heap.specs.Entries.{Entries, entry_of, IsLeastEntry, IsEmpty}
-use Rattle.surf_buckets.specs.Buckets.{IsNearestEntry}
-use Rattle.surf_lengths.specs.Lengths.{longest}
-use Rattle.surf_base.specs.Tables.{at}
-use Rattle.surf_tree.specs.Searches.{HasKey, IsOffered}
-use Rattle.surf_tree.proofs.SearchWords.{IsSearch}
+use Rattle.surf_near.proofs.Common.{ℕ, ◌<◌, ◌≤◌, ◌≡◌, ◌≢◌, ◌+◌, ◌*◌, refl, sym, ap, ◌∙◌, subst, arith, inl, inr, List, length, set, Some, None, eqb, get_or-set_same, get_or-set_other, cases_eq, count_below, Graph, length-set, Entries, entry_of, IsLeastEntry, IsEmpty, IsNearestEntry, longest, at, HasKey, IsOffered, IsSearch, one_less, all_free, IsTurn, least_turn, Tables, never, IsChoice, IsTrimmed, OffersNear, IsListed, IsChosenAt, HasRoom, IsBlank, IsFound}
 use Rattle.surf_tree.proofs.Settling.{no_entry, same_key, search_begins}
-use Rattle.surf_tree.proofs.Offering.{one_less, all_free, IsTurn, least_turn}
-use Rattle.surf_near.specs.declared.tables.Tables.{Tables}
-use Rattle.surf_near.specs.Near.{never}
-use Rattle.surf_near.specs.Searching.{IsChoice, IsTrimmed, OffersNear, IsListed, IsChosenAt, HasRoom, IsBlank, IsFound}
 use Rattle.surf_near.proofs.Ties.{tied, tied_least, search_tied, search_untied, offered_tied}
 use Rattle.surf_near.proofs.Trimming.{trim_all, trim_taken, trim_least}
 use Rattle.surf_near.proofs.Choices.{choice_stays, chosen_kept}

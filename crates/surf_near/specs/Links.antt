@@ -1,6 +1,6 @@
 -- The links of the vertices of a mesh, with the lengths of its edges, and vertices that are barred.
 use Rattle.std.specs.Prelude.{◌≡◌, ℕ, ◌<◌, ◌≤◌, ◌^◌, ◌⊎◌, Bool, true, false, ◌||◌, if◌then◌else◌, List, [], length, map}
-use Rattle.std.specs.Prelude.{Contains, Option, MatchOption, ⊤, slice_index, slice_index_or}
+use Rattle.std.specs.Prelude.{Contains, Option, slice_index, slice_index_or}
 use Rattle.std.specs.List.{range_with_len}
 use Rattle.surf_z2.specs.Parity.{count_below}
 use Rattle.surf_graphs.specs.Graphs.{Graph}
@@ -12,8 +12,10 @@ use Rattle.surf_surfaces.specs.Cells.{cells_of}
 use Rattle.surf_surfaces.specs.SideNumber.{side_count}
 use Rattle.surf_lengths.specs.Lengths.{AreLengths, longest}
 use Rattle.surf_mesh.specs.Links.{IsRow}
-use Rattle.surf_tree.specs.Queues.{AreEven, AreUpTo}
+use Rattle.surf_buckets.specs.declared.TheConstants.{BUCKETS}
+use Rattle.surf_tree.specs.Queues.{AreUpTo, IsEvenness}
 use Rattle.surf_near.specs.declared.links.Link.{Link}
+use Rattle.surf_near.specs.declared.sizes.Sizes.{Sizes}
 
 -- a mesh with its lengths, and the links of each vertex
 pub record LinkTables : Type 0 where
@@ -91,6 +93,31 @@ abbrev pub AreUpToOrPast : List ℕ → ℕ → ℕ → Type 0
 AreUpToOrPast lengths radius most =
     (e : ℕ) → e < length lengths → (slice_index lengths e ≤ most) ⊎ (radius < slice_index lengths e)
 
+-- all edges have one length but those that lead past a radius
+abbrev pub AreEvenOrPast : List ℕ → ℕ → ℕ → Type 0
+AreEvenOrPast lengths radius size =
+    (e : ℕ) → e < length lengths → (slice_index lengths e ≡ size) ⊎ (radius < slice_index lengths e)
+
+-- Of the lengths below the number of buckets none is greater, and of the others none is less.
+
+abbrev pub AreSmallUpTo : List ℕ → ℕ → Type 0
+AreSmallUpTo lengths most =
+    (e : ℕ) → e < length lengths → slice_index lengths e < BUCKETS → slice_index lengths e ≤ most
+
+abbrev pub AreGreatFrom : List ℕ → ℕ → Type 0
+AreGreatFrom lengths least =
+    (e : ℕ) → e < length lengths → BUCKETS ≤ slice_index lengths e → least ≤ slice_index lengths e
+
+-- the greatest of all lengths and of the small ones, and the least of the great ones
+pub record AreSizes (lengths : List ℕ) (sizes : Sizes) : Type 0 where
+  pub all : AreUpTo lengths sizes.greatest
+  pub all_least : (n : ℕ) → AreUpTo lengths n → sizes.greatest ≤ n
+  pub small : AreSmallUpTo lengths sizes.greatest_small
+  pub small_least : (n : ℕ) → AreSmallUpTo lengths n → sizes.greatest_small ≤ n
+  pub great : AreGreatFrom lengths sizes.least_great
+  pub great_most : (n : ℕ) → n ≤ longest → AreGreatFrom lengths n → n ≤ sizes.least_great
+  pub fits : sizes.least_great ≤ longest
+
 -- the links of a vertex before any is barred
 pub record AreGivenAt (mesh : Mesh) (given : List ℕ) (v : ℕ) (links : List Link) : Type 0 where
   pub row : IsRow (primal (cells_of mesh)) v (map ends_of links)
@@ -106,12 +133,12 @@ pub record AreGiven (mesh : Mesh) (given : List ℕ) (rows : List (List Link)) :
   pub count : length rows ≡ mesh.vertices
   pub at : (v : ℕ) → v < mesh.vertices → AreGivenAt mesh given v (slice_index_or rows v [])
 
--- The links with the lengths that were given, and a flag for each vertex; the length of all edges, where it is known
--- that they have one; and a length that no edge exceeds until a vertex is barred.
+-- The links with the lengths that were given, and a flag for each vertex; the one length that was given for all edges,
+-- where there is one; and the sizes of the given lengths.
 pub record AreKept (mesh : Mesh) (given : List ℕ) (rows : List (List Link)) (barred : List Bool) (even : Option ℕ)
-    (barring : Bool) (greatest : ℕ) : Type 0 where
+    (barring : Bool) (sizes : Sizes) : Type 0 where
   pub links : AreGiven mesh given rows
   pub flags : length barred ≡ mesh.vertices
-  pub even_is : MatchOption even ⊤ (AreEven (barred_lengths mesh barred given))
-  pub greatest_is : AreUpTo given greatest
+  pub even_is : IsEvenness given even
+  pub sizes_are : AreSizes given sizes
   pub none : barring ≡ false → barred_lengths mesh barred given ≡ given

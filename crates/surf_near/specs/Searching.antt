@@ -91,8 +91,9 @@ pub record IsKept (heap : Entries) (t : Tables) : Type 0 where
   pub listed : (v : ℕ) → v < length t.distance.items → at t.distance.items v ≢ never →
       (i : ℕ) × (i < t.count) × (at t.order.items i ≡ v)
 
--- The state of a search where all edges have one length: the list of settled nodes is a queue. The nodes before a place
--- have passed on; no node of the list is farther than those behind the place by more than the length.
+-- The state of a search where all edges have one length but those that lead past the radius: the list of settled nodes
+-- is a queue. The nodes before a place have passed on; no node of the list is farther than those behind the place by
+-- more than the length.
 pub record IsQueue (g : Graph) (len : ℕ → ℕ) (size radius : ℕ) (t : Tables) (place : ℕ) : Type 0 where
   pub room : HasRoom g.nodes t
   pub place_in : place ≤ t.count
@@ -107,8 +108,8 @@ pub record IsQueue (g : Graph) (len : ℕ → ℕ) (size radius : ℕ) (t : Tabl
   pub tight : (i : ℕ) → 0 < i → i < t.count →
       IsReached g len (at t.distance.items) (at t.order.items i) (at t.distance.items (at t.order.items i))
   pub near : (i w e : ℕ) → i < place → w < g.nodes → e < g.edges → joins g (at t.order.items i) w e ≡ true →
-      at t.distance.items (at t.order.items i) + size ≤ radius →
-      (at t.distance.items w ≢ never) × (at t.distance.items w ≤ at t.distance.items (at t.order.items i) + size)
+      at t.distance.items (at t.order.items i) + len e ≤ radius →
+      (at t.distance.items w ≢ never) × (at t.distance.items w ≤ at t.distance.items (at t.order.items i) + len e)
   pub chosen : (i : ℕ) → i < place → IsChosenAt g len t (at t.order.items i)
 
 -- the node at the place has passed on, and its choice is made but not kept
@@ -116,9 +117,9 @@ pub record IsLooked (g : Graph) (len : ℕ → ℕ) (size radius : ℕ) (t : Tab
   pub queue : IsQueue g len size radius t place
   pub here : place < t.count
   pub choice : IsChoice g len (at t.distance.items) (at t.least.items) (at t.order.items place) p e m
-  pub near : (w e : ℕ) → w < g.nodes → e < g.edges → joins g (at t.order.items place) w e ≡ true →
-      at t.distance.items (at t.order.items place) + size ≤ radius →
-      (at t.distance.items w ≢ never) × (at t.distance.items w ≤ at t.distance.items (at t.order.items place) + size)
+  pub near : (w f : ℕ) → w < g.nodes → f < g.edges → joins g (at t.order.items place) w f ≡ true →
+      at t.distance.items (at t.order.items place) + len f ≤ radius →
+      (at t.distance.items w ≢ never) × (at t.distance.items w ≤ at t.distance.items (at t.order.items place) + len f)
 
 -- the same of the tables of a mesh's links
 

@@ -54,7 +54,8 @@ fn settle(links: &Links<'_>, tables: &mut Tables, fringe: &mut Fringe, base: Ver
     ensures found { IsFound (graph_of links.now) (weight_of links.now) base radius tables.new }
     ensures places { length fringe.new.entries ≡ links.now.mesh.vertices }
 {
-    match links.even() {
+    links.law_of_links();
+    match links.even(radius) {
         Some(size) => settle_even(links, tables, size, base, radius),
         None => settle_near(links, tables, fringe, base, radius),
     }

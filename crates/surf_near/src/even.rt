@@ -1,16 +1,17 @@
-//! Settles the vertices within a radius of a base where all edges have one length.
+//! Settles the vertices within a radius of a base where all edges have one length but those that
+//! lead past the radius.
 ghost use Rattle.std.specs.Prelude.{◌≡◌, ◌<◌, ◌≤◌, ◌+◌, length};
 ghost use Rattle.surf_base.specs.Tables.{at};
-ghost use Rattle.surf_tree.specs.Queues.{AreEven};
-ghost use Rattle.surf_near.specs.Links.{AreLinks, graph_of, weight_of};
+ghost use Rattle.surf_near.specs.Links.{AreLinks, AreEvenOrPast, graph_of, weight_of};
 ghost use Rattle.surf_near.specs.Searching.{IsBlank, IsFound, HasLooked, IsQueueOf};
 
-use crate::links::Links;
+use crate::links::{Links, length_past};
 use crate::tables::{Choice, NEVER, Tables};
 use surf_base::{NOBODY, VertexId};
 
 // Looks at the links of the listed vertex at a place: chooses its parent and its least vertex among
-// the settled neighbours, and lists the others, as far as the radius.
+// the settled neighbours, and lists the others, as far as the radius. Few links get as far as the
+// question whether they are barred, so it comes last.
 fn look_ahead(
     links: &Links<'_>,
     tables: &mut Tables,
@@ -19,7 +20,7 @@ fn look_ahead(
     radius: u64,
 ) -> Choice
     requires links { AreLinks links.now.mesh links.now.lengths links.now.rows }
-    requires even { AreEven links.now.lengths size }
+    requires even { AreEvenOrPast links.now.lengths radius size }
     requires queue { IsQueueOf links.now size radius tables.old place }
     requires place { place < tables.old.count }
     ensures looked { HasLooked links.now size radius tables.new place result }
@@ -34,26 +35,25 @@ fn look_ahead(
         up: NOBODY,
         least: v.number(),
     };
-    for link in links.at(v) {
+    let around = links.around(v);
+    for link in around.links {
         let to = link.to.number();
         let there = tables.distance[link.to.index()];
         if there == NEVER {
-            if next <= radius {
+            if next <= radius && length_past(around.barred, around.shut, link) == size {
                 tables.list(to, next);
             }
-        } else if there + u64::from(size) == d {
-            best.least = best.least.min(tables.least[link.to.index()]);
-            if to < best.parent {
-                best.parent = to;
-                best.up = link.edge.number();
-            }
+        } else if there + u64::from(size) == d
+            && length_past(around.barred, around.shut, link) == size
+        {
+            best = best.with_tight(to, link.edge.number(), tables.least[link.to.index()]);
         }
     }
     best
 }
 
-/// Settles the vertices within a radius, where all edges have the length `size`. The list of
-/// settled vertices is the queue. It takes no memory.
+/// Settles the vertices within a radius, where all edges have the length `size` but those that lead
+/// past the radius. The list of settled vertices is the queue. It takes no memory.
 pub(crate) fn settle_even(
     links: &Links<'_>,
     tables: &mut Tables,
@@ -62,7 +62,7 @@ pub(crate) fn settle_even(
     radius: u64,
 )
     requires links { AreLinks links.now.mesh links.now.lengths links.now.rows }
-    requires even { AreEven links.now.lengths size }
+    requires even { AreEvenOrPast links.now.lengths radius size }
     requires base { base < links.now.mesh.vertices }
     requires blank { IsBlank links.now.mesh.vertices tables.old }
     ensures found { IsFound (graph_of links.now) (weight_of links.now) base radius tables.new }

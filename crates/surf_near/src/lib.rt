@@ -12,9 +12,9 @@
 //! (E. W. Dijkstra, "A note on two problems in connexion with graphs", 1959), with a fringe in
 //! place of his search for the nearest: buckets where no edge that leads to a vertex within the
 //! radius is as long as there are buckets, and else a heap. What lies past the radius never gets
-//! into the fringe. Where all edges have one length and no vertex is barred, the list of settled
-//! vertices itself is the queue of a breadth-first search (E. F. Moore, "The shortest path through
-//! a maze", 1959), and there is no fringe.
+//! into the fringe. Where all edges that don't lead past the radius have one length, the list of
+//! settled vertices itself is the queue of a breadth-first search (E. F. Moore, "The shortest path
+//! through a maze", 1959), and there is no fringe.
 //!
 //! Of each settled vertex the desk has the distance, the least neighbour from which an edge leads
 //! to this distance, that edge, and the least vertex on any shortest way from the base. These are
@@ -26,6 +26,7 @@ mod even;
 mod fringe;
 mod links;
 mod search;
+mod sizes;
 mod tables;
 
 pub use desk::NearDesk;

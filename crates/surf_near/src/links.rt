@@ -1,20 +1,22 @@
 //! The links of each vertex, side by side.
-ghost use Rattle.std.specs.Prelude.{◌≡◌, ◌<◌, ℕ, length, IfOk, OnOk, MatchOption, ⊤};
+ghost use Rattle.std.specs.Prelude.{◌≡◌, ◌<◌, ◌≤◌, ℕ, ◌⊎◌, true, false, length};
+ghost use Rattle.std.specs.Prelude.{All, IfOk, OnOk, MatchOption, ⊤};
 ghost use Rattle.surf_surfaces.specs.Mesh.{IsMesh};
 ghost use Rattle.surf_surfaces.specs.Surface.{edge_count};
 ghost use Rattle.surf_surfaces.specs.Walk.{edge_length};
-ghost use Rattle.surf_tree.specs.Queues.{AreEven};
+ghost use Rattle.surf_lengths.specs.Lengths.{longest};
 ghost use Rattle.surf_near.specs.Links.{AreLinks, AreLinksAt, AreGivenAt, AreUpToOrPast};
 ghost use Rattle.surf_near.specs.Links.{IsLinkAt, links_of, link_in, degree, length_past};
-ghost use Rattle.surf_near.specs.Links.{KeepsOff, IsShutAt};
+ghost use Rattle.surf_near.specs.Links.{AreEvenOrPast, KeepsOff, IsShutAt};
 
+use crate::sizes::{Sizes, sizes_of};
 use std::alloc::Global;
 use std::marker::Model;
 use surf_base::{EdgeId, NoMemory, VertexId};
 use surf_lengths::Lengths;
 use surf_mesh::HalfMesh;
 use surf_rows::Rows;
-use surf_tree::{even_length, greatest_length};
+use surf_tree::even_length;
 
 /// A neighbour of a vertex, and the given length and the number of the edge to it.
 #[derive(Clone, Copy)]
@@ -42,7 +44,7 @@ pub struct Links<'m> {
     barred: Vec<bool>,
     even: Option<u32>,
     barring: bool,
-    greatest: u32,
+    sizes: Sizes,
 }
 
 impl<'m> Model for Links<'m> {
@@ -57,7 +59,7 @@ impl<'m> Model for Links<'m> {
     } };
 
     ghost invariant = { λ l.
-        AreKept l.mesh.now l.lengths.now l.rows l.barred.items l.even l.barring l.greatest };
+        AreKept l.mesh.now l.lengths.now l.rows l.barred.items l.even l.barring l.sizes };
 }
 
 // Lists the links of one vertex.
@@ -98,6 +100,14 @@ pub(crate) fn length_past(barred: &[bool], shut: bool, link: &Link) -> u32
     }
 }
 
+// Whether each barred edge leads past a radius, if there is one at all.
+fn is_past_bars(barring: bool, radius: u64) -> bool
+    ensures past { result ≡ true → (radius < longest) ⊎ (barring ≡ false) }
+    ensures met { result ≡ false → (longest ≤ radius) × (barring ≡ true) }
+{
+    !barring || radius < u64::from(u32::MAX)
+}
+
 impl<'m> Links<'m> {
     /// The links of a mesh with its lengths. No vertex is barred.
     pub fn make(
@@ -119,7 +129,7 @@ impl<'m> Links<'m> {
         }
         let barred = vec![in alloc; false; mesh.vertices() as usize]?;
         let even = even_length(lengths);
-        let greatest = greatest_length(lengths);
+        let sizes = sizes_of(lengths);
         Ok(Links {
             mesh,
             lengths,
@@ -127,7 +137,7 @@ impl<'m> Links<'m> {
             barred,
             even,
             barring: false,
-            greatest,
+            sizes,
         })
     }
 
@@ -141,7 +151,6 @@ impl<'m> Links<'m> {
         ensures shut { IsShutAt self.new.mesh v self.new.lengths }
     {
         self.barred[v.index()] = true;
-        self.even = None;
         self.barring = true;
     }
 
@@ -154,22 +163,28 @@ impl<'m> Links<'m> {
         let _barring = self.barring;
     }
 
-    /// The length that all edges have, where it is known that they have one.
-    pub(crate) fn even(&self) -> Option<u32>
-        ensures links { AreLinks self.now.mesh self.now.lengths self.now.rows }
-        ensures even { MatchOption result ⊤ (AreEven self.now.lengths) }
+    /// The length that all edges have but those that lead past a radius, where it is known that
+    /// there is one.
+    pub(crate) fn even(&self, radius: u64) -> Option<u32>
+        ensures even { MatchOption result ⊤ (AreEvenOrPast self.now.lengths radius) }
     {
-        self.even
+        if is_past_bars(self.barring, radius) {
+            self.even
+        } else {
+            None
+        }
     }
 
     /// A length that no edge exceeds but those that lead past a radius.
     pub(crate) fn step(&self, radius: u64) -> u32
         ensures step { AreUpToOrPast self.now.lengths radius result }
     {
-        if self.barring && radius >= u64::from(u32::MAX) {
-            u32::MAX
+        if radius < u64::from(self.sizes.least_great) {
+            self.sizes.greatest_small
+        } else if is_past_bars(self.barring, radius) {
+            self.sizes.greatest
         } else {
-            self.greatest
+            u32::MAX
         }
     }
 
@@ -186,10 +201,14 @@ impl<'m> Links<'m> {
     pub(crate) fn around(&self, v: VertexId) -> Around<'_>
         requires vertex { v < self.now.mesh.vertices }
         ensures row { AreLinksAt self.now.mesh self.now.lengths v result.links.now }
+        ensures inside { All (λ x. x.to < self.now.mesh.vertices) result.links.now }
         ensures flags { length result.barred.now ≡ self.now.mesh.vertices }
         ensures lengths { (k : ℕ) → k < length result.links.now →
             length_past result.barred.now result.shut (link_in result.links.now k)
             ≡ edge_length self.now.lengths (link_in result.links.now k).edge }
+        ensures given { (k : ℕ) → k < length result.links.now →
+            (link_in result.links.now k).length
+            ≤ edge_length self.now.lengths (link_in result.links.now k).edge }
     {
         Around {
             links: self.rows.row(v.index()),

@@ -12,7 +12,8 @@ use crate::tables::{Choice, NEVER, Tables};
 use surf_base::{NOBODY, VertexId};
 
 // Looks at the links of a vertex that was just settled: chooses its parent and its least vertex
-// among the settled neighbours, and offers the others to the fringe, as far as the radius.
+// among the settled neighbours, and offers the others to the fringe, as far as the radius. A bar
+// only makes an edge longer, so its flags are read where the given length would do.
 fn look_round(
     links: &Links<'_>,
     distance: &[u64],
@@ -43,19 +44,18 @@ fn look_round(
     let around = links.around(v);
     for link in around.links {
         let to = link.to.number();
-        let length = u64::from(length_past(around.barred, around.shut, link));
         let there = distance[link.to.index()];
         if there == NEVER {
-            let reached = d + length;
-            if reached <= radius {
-                fringe.offer(to, reached);
+            if d + u64::from(link.length) <= radius {
+                let reached = d + u64::from(length_past(around.barred, around.shut, link));
+                if reached <= radius {
+                    fringe.offer(to, reached);
+                }
             }
-        } else if there + length == d {
-            best.least = best.least.min(least[link.to.index()]);
-            if to < best.parent {
-                best.parent = to;
-                best.up = link.edge.number();
-            }
+        } else if there + u64::from(link.length) <= d
+            && there + u64::from(length_past(around.barred, around.shut, link)) == d
+        {
+            best = best.with_tight(to, link.edge.number(), least[link.to.index()]);
         }
     }
     best

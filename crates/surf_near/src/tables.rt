@@ -1,5 +1,5 @@
 //! The tables of a search.
-ghost use Rattle.std.specs.Prelude.{◌≡◌, ◌≢◌, ◌<◌, ◌≤◌, ◌+◌, ℕ, length, slice_set};
+ghost use Rattle.std.specs.Prelude.{◌≡◌, ◌≢◌, ◌<◌, ◌≤◌, ◌+◌, ℕ, min, length, slice_set};
 ghost use Rattle.surf_base.specs.Tables.{at};
 ghost use Rattle.surf_near.specs.Near.{never};
 ghost use Rattle.surf_near.specs.Searching.{ListsSettled};
@@ -16,6 +16,23 @@ pub(crate) struct Choice {
     pub parent: u32,
     pub up: u32,
     pub least: u32,
+}
+
+impl Choice {
+    /// The choice where one more neighbour is tight, with the edge to it and its least vertex.
+    #[inline]
+    pub(crate) fn with_tight(self, to: u32, edge: u32, least: u32) -> Choice
+        ensures lower { to < self.parent → (result.parent ≡ to) × (result.up ≡ edge) }
+        ensures higher { self.parent ≤ to →
+            (result.parent ≡ self.parent) × (result.up ≡ self.up) }
+        ensures least { result.least ≡ min self.least least }
+    {
+        Choice {
+            parent: self.parent.min(to),
+            up: if to < self.parent { edge } else { self.up },
+            least: self.least.min(least),
+        }
+    }
 }
 
 /// The settled vertices in order, and what is known of each vertex.

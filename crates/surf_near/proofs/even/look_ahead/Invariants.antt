@@ -1,6 +1,4 @@
-use Rattle.std.proofs.Common.{◌≡◌, map}
-use Rattle.surf_base.specs.Tables.{at}
-use Rattle.surf_near.specs.Links.{graph_of, weight_of, ends_of}
+use Rattle.surf_near.proofs.Common.{◌≡◌, map, at, graph_of, weight_of, ends_of}
 use Rattle.surf_near.proofs.Queues.{IsLooking}
 use Rattle.surf_near.proofs.even.look_ahead.Given as goal
 

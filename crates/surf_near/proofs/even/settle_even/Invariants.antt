@@ -1,7 +1,4 @@
-use Rattle.std.proofs.Common.{◌-◌, ◌≡◌}
-use Rattle.surf_base.specs.Tables.{at}
-use Rattle.surf_near.specs.Links.{graph_of, weight_of}
-use Rattle.surf_near.specs.Searching.{IsQueue}
+use Rattle.surf_near.proofs.Common.{◌-◌, ◌≡◌, at, graph_of, weight_of, IsQueue}
 use Rattle.surf_near.proofs.even.settle_even.Given as goal
 
 abbrev pub invariant-loop-place : goal.invariant-loop-place

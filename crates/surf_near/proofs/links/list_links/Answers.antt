@@ -1,4 +1,4 @@
-use Rattle.surf_surfaces.proofs.Common.{◌≡◌, ◌∙◌, take, arith, take_all, length-map}
+use Rattle.surf_near.proofs.Common.{◌≡◌, ◌∙◌, take, arith, take_all, length-map}
 use Rattle.surf_near.proofs.Linking.{link_over, links_over}
 use Rattle.surf_near.proofs.RowCounts.{row_length}
 use Rattle.surf_near.proofs.links.list_links.Goals as goal

@@ -1,4 +1,4 @@
-use Rattle.std.proofs.Common.{◌≡◌, map, take}
+use Rattle.surf_near.proofs.Common.{◌≡◌, map, take}
 use Rattle.surf_near.proofs.Linking.{link_over}
 use Rattle.surf_near.proofs.links.list_links.Given as goal
 

@@ -1,42 +1,10 @@
-use Rattle.surf_surfaces.proofs.Common.{◌≡◌, ◌≢◌, ◌<◌, ◌≤◌, ◌+◌, ◌∙◌, length, min, arith, set, Some, map, ap, inl, inr, refl, length-map}
-use Rattle.std.proofs.Math.ListN.{length-set}
-use Rattle.surf_heap.specs.Entries.{entry_of, lesser}
-use Rattle.surf_lengths.specs.Lengths.{longest}
-use Rattle.surf_base.specs.Tables.{at}
-use Rattle.surf_near.specs.Near.{never}
-use Rattle.surf_near.specs.Links.{graph_of, weight_of, ends_of, length_past}
+use Rattle.surf_near.proofs.Common.{◌≡◌, ◌≢◌, ◌<◌, ◌≤◌, ◌+◌, ◌∙◌, length, arith, set, Some, map, ap, length-map, length-set, entry_of, lesser, longest, at, never, graph_of, weight_of, ends_of, length_past}
 use Rattle.surf_near.proofs.Linking.{item_link, item_in, item_with, up_to_within}
 use Rattle.surf_near.proofs.Offers.{offers_skip, offers_more, offers_passed, offers_all}
-use Rattle.surf_near.proofs.Choices.{min_parts, choice_skip, choice_take, choice_all}
+use Rattle.surf_near.proofs.Choices.{choice_skip, choice_take, choice_all}
 use Rattle.surf_near.proofs.search.look_round.Goals as goal
-use Rattle.surf_near.proofs.search.look_round.Goals.{then-there+then-reached-radius, then-there+else-reached-radius, else-there+then-there-length+then-to-best, else-there+then-there-length+else-to-best, else-there+else-there-length}
-
-pub bounds-distance-index-in-loop-link : goal.bounds-distance-index-in-loop-link
-bounds-distance-index-in-loop-link c =
-    let net = c.args.links.now in
-    let inside = item_in net.mesh net.lengths c.args.v c.around-around.result.links.now c.around-around.ensures.row c.loop-link.link-index (omega (arith, c.loop-link-test.true)) c.link-item.result c.link-item.is in
-    omega (arith, inside, c.requires.distances)
-
-pub bounds-least-index : goal.bounds-least-index
-bounds-least-index c =
-    let net = c.args.links.now in
-    let inside = item_in net.mesh net.lengths c.args.v c.around-around.result.links.now c.around-around.ensures.row c.loop-link.link-index (omega (arith, c.loop-link-test.true)) c.link-item.result c.link-item.is in
-    omega (arith, inside, c.requires.leasts)
-
-pub length_past-requires : goal.length_past-requires
-length_past-requires c =
-    let net = c.args.links.now in
-    let inside = item_in net.mesh net.lengths c.args.v c.around-around.result.links.now c.around-around.ensures.row c.loop-link.link-index (omega (arith, c.loop-link-test.true)) c.link-item.result c.link-item.is in
-    record { flag = omega (arith, inside, c.around-around.ensures.flags) }
-
-pub overflow_add-there : goal.overflow_add-there
-overflow_add-there c =
-    let net = c.args.links.now in
-    let w = c.link-item.result.to in
-    let inside = item_in net.mesh net.lengths c.args.v c.around-around.result.links.now c.around-around.ensures.row c.loop-link.link-index (omega (arith, c.loop-link-test.true)) c.link-item.result c.link-item.is in
-    let there = ap (at c.args.distance.now) c.index-in-loop-link.ensures in
-    let room : at c.args.distance.now w + longest < never = c.requires.fits w inside (λ none. absurd (c.if-there.false (there ∙ none))) in
-    omega (arith, room, there, c.from-length.ensures, c.length_past.type_inv)
+use Rattle.surf_near.proofs.search.look_round.Goals.{then-there+then-d-from+then-reached-radius, then-there+then-d-from+else-reached-radius, then-there+else-d-from}
+use Rattle.surf_near.proofs.search.look_round.Goals.{else-there+then-there-from+then-there-from-2, else-there+else-there-from, else-there-from-via-then-there-from+else-there-from-2, else-there-from-via-else-there-from}
 
 pub offer-requires-clause-to : goal.offer-requires-clause-to
 offer-requires-clause-to c =
@@ -45,10 +13,10 @@ offer-requires-clause-to c =
     let n = c.loop-link.link-index in
     let x = c.link-item.result in
     let size : length_past around.result.barred.now around.result.shut x ≡ weight_of net x.edge = item_with net.mesh net.lengths c.args.v around.result.links.now around.ensures.row n (omega (arith, c.loop-link-test.true)) x c.link-item.is
-    (λ y. length_past around.result.barred.now around.result.shut y) (λ y. weight_of net y.edge) around.ensures.lengths in
+    (λ y. length_past around.result.barred.now around.result.shut y ≡ weight_of net y.edge) around.ensures.lengths in
     let here = ap (at c.args.distance.now) c.index.ensures in
-    let most = up_to_within net.lengths c.args.radius c.args.fringe.now.step c.requires.step x.edge (omega (arith, size, c.length_past.ensures.length, c.from-length.ensures, c.if-reached-radius.true)) in
-    omega (arith, size, most, here, c.length_past.ensures.length, c.from-length.ensures, c.loop-link.invariant.now, c.loop-link.invariant.step)
+    let most = up_to_within net.lengths c.args.radius c.args.fringe.now.step c.requires.step x.edge (omega (arith, size, c.length_past.ensures.length, c.from-then-d-from.ensures, c.if-reached-radius.true)) in
+    omega (arith, size, most, here, c.length_past.ensures.length, c.from-then-d-from.ensures, c.loop-link.invariant.now, c.loop-link.invariant.step)
 
 pub loop-link-preserved : goal.loop-link-preserved
 loop-link-preserved c =
@@ -74,8 +42,8 @@ loop-link-preserved c =
     let inside = item_in net.mesh net.lengths v items c.around-around.ensures.row n li x c.link-item.is in
     let around = c.around-around in
     let past : length_past around.result.barred.now around.result.shut x ≡ len e = item_with net.mesh net.lengths v items around.ensures.row n li x c.link-item.is
-    (λ y. length_past around.result.barred.now around.result.shut y) (λ y. weight_of net y.edge) around.ensures.lengths in
-    let size : c.from-length.result ≡ len e = c.from-length.ensures ∙ c.length_past.ensures.length ∙ past in
+    (λ y. length_past around.result.barred.now around.result.shut y ≡ weight_of net y.edge) around.ensures.lengths in
+    let given : x.length ≤ len e = item_with net.mesh net.lengths v items around.ensures.row n li x c.link-item.is (λ y. y.length ≤ weight_of net y.edge) around.ensures.given in
     let inv = c.loop-link.invariant in
     let d = dist c.index.result in
     let here : d ≡ dist v = ap dist c.index.ensures in
@@ -83,9 +51,9 @@ loop-link-preserved c =
     let in_heap : w < length heap = omega (arith, inside, inv.places) in
     let room : dist v + longest < never = c.requires.fits v c.requires.vertex c.requires.settled in
     elim c.if-there.branch [
-      | then-there+then-reached-radius b ↦
+      | then-there+then-d-from+then-reached-radius b ↦
           let free : dist w ≡ never = omega (arith, b.if-there.true, there) in
-          let key : d + c.from-length.result ≡ d + len e = omega (arith, size) in
+          let key : d + b.from-then-d-from.result ≡ d + len e = omega (arith, b.from-then-d-from.ensures, b.length_past.ensures.length, past) in
           let within : d + len e ≤ c.args.radius = omega (arith, b.if-reached-radius.true, key) in
           let new : b.offer.new.self.entries ≡ set heap w (Some (lesser (entry_of heap w) (d + len e) 0)) = rw (← key, ← c.number-to.ensures) b.offer.ensures.entry in
           rw (b.fringe-is, b.best-is, new) (record {
@@ -95,48 +63,50 @@ loop-link-preserved c =
             choice = choice_skip graph len dist least v links row n w e ln is old.parent old.up old.least inv.choice (λ t. absurd (omega (arith, t, free, room)));
             offers = offers_more graph len dist v d c.args.radius links row c.args.fringe.now.entries heap n w e ln is inv.offers free in_heap within;
           })
-      | then-there+else-reached-radius b ↦
+      | then-there+then-d-from+else-reached-radius b ↦
           let free : dist w ≡ never = omega (arith, b.if-there.true, there) in
-          let past : c.args.radius < d + len e = omega (arith, b.if-reached-radius.false, size) in
+          let far : c.args.radius < d + len e = omega (arith, b.if-reached-radius.false, b.from-then-d-from.ensures, b.length_past.ensures.length, past) in
           rw (b.fringe-is, b.best-is) (record {
             places = inv.places;
             now = inv.now;
             step = inv.step;
             choice = choice_skip graph len dist least v links row n w e ln is old.parent old.up old.least inv.choice (λ t. absurd (omega (arith, t, free, room)));
-            offers = offers_passed graph len dist v d c.args.radius links row c.args.fringe.now.entries heap n w e ln is inv.offers free in_heap past;
+            offers = offers_passed graph len dist v d c.args.radius links row c.args.fringe.now.entries heap n w e ln is inv.offers free in_heap far;
           })
-      | else-there+then-there-length+then-to-best b ↦
-          let settled : dist w ≢ never = λ t. absurd (b.if-there.false (there ∙ t)) in
-          let tight : dist w + len e ≡ dist v = omega (arith, b.if-there-length.true, there, here, size) in
-          let lower = min_parts old.least (least w) b.min.result (b.min.ensures ∙ ap (λ k. min old.least (least k)) b.index-then-there-length.ensures) in
-          rw (b.fringe-is, b.best-is, c.number-to.ensures, b.number-then-to-best.ensures) (record {
-            places = inv.places;
-            now = inv.now;
-            step = inv.step;
-            choice = choice_take graph len dist least v links row n w e ln is old.parent old.up old.least inv.choice w e b.min.result tight
-                (omega (arith, b.if-to-best.true, c.number-to.ensures)) (omega arith) (inr (refl, refl)) lower.0 lower.1 lower.2;
-            offers = offers_skip graph len dist v d c.args.radius links row c.args.fringe.now.entries heap n w e ln is inv.offers settled;
-          })
-      | else-there+then-there-length+else-to-best b ↦
-          let settled : dist w ≢ never = λ t. absurd (b.if-there.false (there ∙ t)) in
-          let tight : dist w + len e ≡ dist v = omega (arith, b.if-there-length.true, there, here, size) in
-          let lower = min_parts old.least (least w) b.min.result (b.min.ensures ∙ ap (λ k. min old.least (least k)) b.index-then-there-length.ensures) in
+      | then-there+else-d-from b ↦
+          let free : dist w ≡ never = omega (arith, b.if-there.true, there) in
+          let far : c.args.radius < d + len e = omega (arith, b.if-d-from.false, b.from.ensures, given) in
           rw (b.fringe-is, b.best-is) (record {
             places = inv.places;
             now = inv.now;
             step = inv.step;
-            choice = choice_take graph len dist least v links row n w e ln is old.parent old.up old.least inv.choice old.parent old.up b.min.result tight
-                (omega arith) (omega (arith, b.if-to-best.false, c.number-to.ensures)) (inl (refl, refl)) lower.0 lower.1 lower.2;
+            choice = choice_skip graph len dist least v links row n w e ln is old.parent old.up old.least inv.choice (λ t. absurd (omega (arith, t, free, room)));
+            offers = offers_passed graph len dist v d c.args.radius links row c.args.fringe.now.entries heap n w e ln is inv.offers free in_heap far;
+          })
+      | else-there+then-there-from+then-there-from-2 b ↦
+          let settled : dist w ≢ never = λ t. absurd (b.if-there.false (there ∙ t)) in
+          let tight : dist w + len e ≡ dist v = omega (arith, b.if-there-from-2.true, there, here, b.from-then-there-from.ensures, b.length_past-then-there-from.ensures.length, past) in
+          let taken = rw (c.number-to.ensures, b.number-then-there-from-2.ensures, b.index-then-there-from-2.ensures) at b.with_tight-best.ensures in
+          rw (b.fringe-is, b.best-is) (record {
+            places = inv.places;
+            now = inv.now;
+            step = inv.step;
+            choice = choice_take graph len dist least v links row n w e ln is old.parent old.up old.least inv.choice
+                b.with_tight-best.result.parent b.with_tight-best.result.up b.with_tight-best.result.least tight taken.lower taken.higher taken.least;
             offers = offers_skip graph len dist v d c.args.radius links row c.args.fringe.now.entries heap n w e ln is inv.offers settled;
           })
-      | else-there+else-there-length b ↦
+      | else-there+else-there-from b ↦
           let settled : dist w ≢ never = λ t. absurd (b.if-there.false (there ∙ t)) in
           rw (b.fringe-is, b.best-is) (record {
             places = inv.places;
             now = inv.now;
             step = inv.step;
             choice = choice_skip graph len dist least v links row n w e ln is old.parent old.up old.least inv.choice
-                (λ t. absurd (b.if-there-length.false (omega (arith, t, there, here, size))));
+                (λ t. elim b.else-there-from.branch [
+                  | else-there-from-via-then-there-from+else-there-from-2 y ↦
+                      absurd (y.if-there-from-2.false (omega (arith, t, there, here, y.from-then-there-from.ensures, y.length_past-then-there-from.ensures.length, past)))
+                  | else-there-from-via-else-there-from y ↦ absurd (omega (arith, y.if-there-from.false, t, there, here, b.from-else-there.ensures, given))
+                ]);
             offers = offers_skip graph len dist v d c.args.radius links row c.args.fringe.now.entries heap n w e ln is inv.offers settled;
           })
     ]

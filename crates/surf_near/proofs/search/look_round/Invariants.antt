@@ -1,6 +1,4 @@
-use Rattle.std.proofs.Common.{◌≡◌, length, map}
-use Rattle.surf_base.specs.Tables.{at}
-use Rattle.surf_near.specs.Links.{graph_of, weight_of, ends_of}
+use Rattle.surf_near.proofs.Common.{◌≡◌, length, map, at, graph_of, weight_of, ends_of}
 use Rattle.surf_near.proofs.Choices.{IsChoiceSome}
 use Rattle.surf_near.proofs.Offers.{OffersSome}
 use Rattle.surf_near.proofs.search.look_round.Given as goal

@@ -1,10 +1,4 @@
-use Rattle.surf_surfaces.proofs.Common.{◌≡◌, ◌<◌, ◌∙◌, ℕ, List, length, arith, set, ap, sym, subst, None, get_or-set_same, eqb, count_below}
-use Rattle.std.proofs.Math.ListN.{length-set}
-use Rattle.surf_base.specs.Tables.{at}
-use Rattle.surf_tree.proofs.Offering.{first_offer}
-use Rattle.surf_near.specs.Near.{never}
-use Rattle.surf_near.specs.Links.{graph_of, weight_of}
-use Rattle.surf_near.specs.Searching.{IsChoice, OffersNear}
+use Rattle.surf_near.proofs.Common.{◌≡◌, ◌<◌, ◌∙◌, ℕ, List, length, arith, set, ap, sym, subst, None, get_or-set_same, eqb, count_below, length-set, at, first_offer, never, graph_of, weight_of, IsChoice, OffersNear}
 use Rattle.surf_near.proofs.Linking.{links_small, links_short, links_positive}
 use Rattle.surf_near.proofs.Turns.{near_begins, near_ends, turn_in, turn_short, turn_fewer, turn_room, turn_near}
 use Rattle.surf_near.proofs.search.settle_near.Goals as goal

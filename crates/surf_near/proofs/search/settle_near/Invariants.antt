@@ -1,7 +1,4 @@
-use Rattle.surf_surfaces.proofs.Common.{◌≡◌, length, eqb, count_below}
-use Rattle.surf_base.specs.Tables.{at}
-use Rattle.surf_near.specs.Links.{AreUpToOrPast, graph_of, weight_of}
-use Rattle.surf_near.specs.Near.{never}
+use Rattle.surf_near.proofs.Common.{◌≡◌, length, eqb, count_below, at, AreUpToOrPast, graph_of, weight_of, never}
 use Rattle.surf_near.proofs.Turns.{IsSearchNear}
 use Rattle.surf_near.proofs.search.settle_near.Given as goal
 

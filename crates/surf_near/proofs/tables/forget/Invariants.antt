@@ -1,6 +1,4 @@
-use Rattle.std.proofs.Common.{◌≡◌, ◌≢◌, ◌<◌, ◌≤◌, ℕ, length}
-use Rattle.surf_base.specs.Tables.{at}
-use Rattle.surf_near.specs.Near.{never}
+use Rattle.surf_near.proofs.Common.{◌≡◌, ◌≢◌, ◌<◌, ◌≤◌, ℕ, length, at, never}
 use Rattle.surf_near.proofs.tables.forget.Given as goal
 
 abbrev pub invariant-loop-v : goal.invariant-loop-v

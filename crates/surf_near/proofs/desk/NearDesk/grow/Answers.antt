@@ -1,4 +1,4 @@
-use Rattle.surf_surfaces.proofs.Common.{◌∙◌, arith, get_or-take, length-take-le}
+use Rattle.surf_near.proofs.Common.{◌∙◌, arith, get_or-take, length-take-le}
 use Rattle.surf_near.proofs.Linking.{links_few, links_small, links_positive}
 use Rattle.surf_near.proofs.NearTrees.{near_found}
 use Rattle.surf_near.proofs.desk.NearDesk.grow.Goals as goal

@@ -1,5 +1,4 @@
-use Rattle.std.proofs.Common.{arith}
-use Rattle.surf_mesh.proofs.LinkLaws.{cells_few}
+use Rattle.surf_near.proofs.Common.{arith, cells_few}
 use Rattle.surf_near.proofs.desk.NearDesk.make.Goals as goal
 
 pub make-requires : goal.make-requires

@@ -1,22 +1,18 @@
-use Rattle.surf_surfaces.proofs.Common.{◌<◌, length, ap, subst, arith, true, slice_set}
-use Rattle.surf_near.specs.Links.{LinkTables, KeepsOff, barred_lengths}
+use Rattle.surf_near.proofs.Common.{◌<◌, refl, length, ap, arith, LinkTables}
 use Rattle.surf_near.proofs.Barring.{bar_keeps, bar_shuts}
 use Rattle.surf_near.proofs.links.Links.bar.Goals as goal
 
-pub returns-clause-off : goal.returns-clause-off
-returns-clause-off c =
+pub returns : goal.returns
+returns c =
     let inside = c.self.inside in
     let kept = c.self.invariant in
     let mesh = inside.mesh.now in
-    let same = ap (λ (t : LinkTables). t.mesh.vertices) c.self.view_is in
-    let here : c.args.v < length inside.barred.items = omega (arith, c.requires.vertex, same, kept.flags) in
-    rw c.index.ensures (subst (λ (t : LinkTables). KeepsOff mesh c.args.v t.lengths (barred_lengths mesh (slice_set inside.barred.items c.args.v true) inside.lengths.now)) c.self.view_is
-    (bar_keeps mesh inside.lengths.now inside.barred.items c.args.v here kept.links.as_many))
-
-pub returns-clause-shut : goal.returns-clause-shut
-returns-clause-shut c =
-    let inside = c.self.inside in
-    let kept = c.self.invariant in
-    let same = ap (λ (t : LinkTables). t.mesh.vertices) c.self.view_is in
-    let here : c.args.v < length inside.barred.items = omega (arith, c.requires.vertex, same, kept.flags) in
-    rw c.index.ensures (bar_shuts inside.mesh.now inside.lengths.now inside.barred.items c.args.v here kept.links.as_many)
+    let given = inside.lengths.now in
+    let barred = inside.barred.items in
+    let here : c.args.v < length barred = omega (arith, c.requires.vertex, ap (λ (t : LinkTables). t.mesh.vertices) c.self.view_is, kept.flags) in
+    rw (c.index.ensures, ← c.self.view_is) (record {
+      mesh = refl;
+      rows = refl;
+      off = bar_keeps mesh given barred c.args.v here kept.links.as_many;
+      shut = bar_shuts mesh given barred c.args.v here kept.links.as_many;
+    })

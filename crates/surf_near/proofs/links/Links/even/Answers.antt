@@ -1,10 +1,9 @@
-use Rattle.std.proofs.Common.{subst}
-use Rattle.surf_near.specs.Links.{LinkTables, AreLinks}
-use Rattle.surf_near.proofs.Barring.{barred_rows}
+use Rattle.surf_near.proofs.Barring.{even_past}
 use Rattle.surf_near.proofs.links.Links.even.Goals as goal
 
-pub returns-clause-links : goal.returns-clause-links
-returns-clause-links c =
+pub returns-then-is_past_bars : goal.returns-then-is_past_bars
+returns-then-is_past_bars c =
     let inside = c.self.inside in
-    subst (λ (t : LinkTables). AreLinks t.mesh t.lengths t.rows) c.self.view_is
-    (barred_rows inside.mesh.now inside.lengths.now inside.barred.items inside.rows c.self.invariant.links)
+    let kept = c.self.invariant in
+    let known = c.is_past_bars.ensures.past c.if-is_past_bars.true in
+    record { even = rw (← c.self.view_is) (even_past inside.mesh.now inside.lengths.now inside.barred.items c.args.radius inside.barring kept.none known inside.even kept.even_is) }

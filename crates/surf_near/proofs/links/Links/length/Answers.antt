@@ -1,5 +1,4 @@
-use Rattle.surf_surfaces.proofs.Common.{◌≡◌, ◌<◌, ap, ◌∙◌, arith, length, false, slice_index_or, get_or_default}
-use Rattle.surf_near.specs.Links.{LinkTables}
+use Rattle.surf_near.proofs.Common.{◌≡◌, ◌<◌, ap, ◌∙◌, arith, length, false, slice_index_or, get_or_default, LinkTables}
 use Rattle.surf_near.proofs.Barring.{link_within, link_length}
 use Rattle.surf_near.proofs.links.Links.length.Goals as goal
 

@@ -1,9 +1,5 @@
-use Rattle.std.proofs.Common.{◌≡◌, ◌<◌, ◌∙◌, ◌∷◌, ◌++◌, [], List, false, replicate, length, length-append, ap, subst, arith, inl, inr}
-use Rattle.surf_surfaces.proofs.Common.{sum_by, cases_eq, get_or_push, get_or_append_left, length-replicate, sum_by_push}
-use Rattle.surf_mesh.proofs.LinkLaws.{cells_few}
-use Rattle.surf_near.specs.declared.links.Link.{Link}
-use Rattle.surf_near.specs.Links.{AreGivenAt, barred_lengths, degree}
-use Rattle.surf_near.proofs.Barring.{none_barred, even_kept}
+use Rattle.surf_near.proofs.Common.{◌≡◌, ◌<◌, ◌∙◌, ◌∷◌, ◌++◌, [], List, false, replicate, length, length-append, ap, subst, arith, inl, inr, sum_by, cases_eq, get_or_push, get_or_append_left, length-replicate, sum_by_push, cells_few, Link, AreGivenAt, barred_lengths, degree}
+use Rattle.surf_near.proofs.Barring.{none_barred}
 use Rattle.surf_near.proofs.RowCounts.{rows_before, rows_next}
 use Rattle.surf_near.proofs.links.Links.make.Goals as goal
 
@@ -54,8 +50,8 @@ invariant_of-result c =
         at = λ v l. inv.at v (omega (arith, end));
       };
       flags = ap length is ∙ length-replicate c.vertices-2.result false ∙ c.vertices-2.ensures.count;
-      even_is = rw given (even_kept c.args.lengths.now c.even_length-even.result c.even_length-even.ensures.even);
-      greatest_is = c.greatest_length-greatest.ensures.greatest;
+      even_is = c.even_length-even.ensures.even;
+      sizes_are = c.sizes_of-sizes.ensures.sizes;
       none = λ no. given;
     }
 

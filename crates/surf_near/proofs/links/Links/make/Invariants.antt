@@ -1,5 +1,4 @@
-use Rattle.surf_surfaces.proofs.Common.{◌≡◌, ◌<◌, ℕ, [], length, sum_by, slice_index_or, sum_below}
-use Rattle.surf_near.specs.Links.{AreGivenAt, degree}
+use Rattle.surf_near.proofs.Common.{◌≡◌, ◌<◌, ℕ, [], length, sum_by, slice_index_or, sum_below, AreGivenAt, degree}
 use Rattle.surf_near.proofs.links.Links.make.Given as goal
 
 abbrev pub invariant-loop-v : goal.invariant-loop-v
