@@ -1,10 +1,8 @@
 -- The tables of an elimination.
-use Rattle.std.proofs.Common.{ℕ, ◌≡◌, ◌≢◌, ◌+◌, ◌-◌, ◌*◌, ◌<◌, ◌≤◌, ◌^◌, Option, Some, None, Bool, true, false, MatchOption, MatchBool, zero, suc, List, [], ◌∷◌, ◌++◌, length, get_or, set, take, All, bit_xor, lit<, inl, inr, not, is_some, refl, sym, ap, ◌∙◌, subst, arith}
-use Rattle.surf_surfaces.proofs.Common.{slice_index, AllByRecursion, cases_lt, pow-le-pow_right, numbers, Spanned, All-push, InSpan, rest_in, add_in, in_from_spanned, spanned_from_in}
-use Rattle.std.proofs.lemmas.List.{get_or-take, length-take, length-append, length-set, get_or-append_right, get_or-set_same, get_or-set_other}
-use Rattle.std.specs.Int.Bits.{xor_assoc, xor_zero_r}
+use Rattle.surf_choice.proofs.Common.{ℕ, ◌≡◌, ◌≢◌, ◌+◌, ◌-◌, ◌*◌, ◌<◌, ◌≤◌, ◌^◌, Option, Some, None, Bool, true, false, MatchOption, MatchBool, zero, suc, List, [], ◌∷◌, ◌++◌, length, get_or, set, take, All, bit_xor, lit<, inl, inr, not, is_some, refl, sym, ap, ◌∙◌, subst, arith, slice_index, AllByRecursion, cases_lt, pow-le-pow_right, numbers, Spanned, All-push, rest_in, add_in, in_from_spanned, spanned_from_in, get_or-take, length-take, length-append, length-set, xor_assoc, xor_zero_r, IsGreatest, IsEchelon, AreLed, ArePlaced}
+use Rattle.surf_surfaces.proofs.Common.{InSpan}
+use Rattle.std.proofs.lemmas.List.{get_or-append_right, get_or-set_same, get_or-set_other}
 use Rattle.surf_z2.proofs.Width.{width_law}
-use Rattle.surf_choice.specs.Echelons.{IsGreatest, IsEchelon, AreLed, ArePlaced}
 use Rattle.surf_choice.proofs.Greatest.{led_front, led_count, led_more, led_at, independent_led, same_greatest, other_led, exponent_below}
 use Rattle.surf_choice.proofs.Fronts.{row_in}
 

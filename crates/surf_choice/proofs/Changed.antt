@@ -1,11 +1,8 @@
 -- Where the choice changes when others are offered to those kept.
-use Rattle.surf_surfaces.proofs.Common.{◌≡◌, ℕ, zero, suc, ◌+◌, ◌-◌, ◌<◌, ◌≤◌, true, false, List, [], ◌∷◌, ◌++◌, length, get_or, take, drop, All, refl, sym, ap, ◌∙◌, subst, arith, inl, inr, append_assoc, cases_lt, cases_Bool, AllByRecursion, recursion_from_All, All-from_recursion, merge, numbers, is_nothing, Bool, Spanned, Decides-is_nothing, in_from_spanned, spanned_from_in, map-append, length-map, get_or_default, append-nil, drop_more, at_drop_all, take_more, take-append-drop, take-map, get_or-drop, length-drop, get_or-take, length-take, take_all, greedy_after, spans, not_spans}
+use Rattle.surf_choice.proofs.Common.{◌≡◌, ℕ, zero, suc, ◌+◌, ◌-◌, ◌<◌, ◌≤◌, true, false, List, [], ◌∷◌, ◌++◌, length, get_or, take, drop, All, refl, sym, ap, ◌∙◌, subst, arith, inl, inr, append_assoc, cases_lt, cases_Bool, AllByRecursion, recursion_from_All, All-from_recursion, numbers, is_nothing, Bool, Spanned, Decides-is_nothing, in_from_spanned, length-map, append-nil, drop_more, at_drop_all, take_more, take-append-drop, take-map, get_or-drop, length-drop, get_or-take, length-take, take_all, greedy_after, spans, Signed, signed_earlier, has_next, independent_of, candidates, signatures, kept_after, IsChange, AreRowsOf}
+use Rattle.surf_surfaces.proofs.Common.{merge, not_spans}
 use Rattle.std.proofs.lemmas.List.{drop-map}
-use Rattle.surf_z2.proofs.Basics.{in_left}
 use Rattle.surf_choice.specs.declared.candidate.Candidate.{Candidate}
-use Rattle.surf_choice.specs.declared.candidate.Signed.{Signed}
-use Rattle.surf_choice.specs.Candidates.{signed_earlier, has_next, independent_of, candidates, signatures, kept_after, IsChange, IsRepeated}
-use Rattle.surf_choice.specs.Echelons.{AreRowsOf}
 use Rattle.surf_choice.proofs.Fronts.{AreFreshAfter, front_spanned}
 use Rattle.surf_choice.proofs.Sifted.{kept_turn, kept_over}
 
@@ -49,14 +46,12 @@ pub record IsPassing (kept offered : List Signed) (place fresh : ℕ) : Type 0 w
   pub fresh_in : fresh ≤ length offered
   pub rest : kept_after (take place kept) (merge signed_earlier (drop place kept) (drop fresh offered))
       ≡ independent_of (merge signed_earlier kept offered)
-  pub sums : (k : ℕ) (d : Signed) → k < fresh → Spanned numbers (signatures (take place kept)) (get_or offered k d).signature
 
 pub pass_begun : (kept offered : List Signed) → IsPassing kept offered 0 0
 pass_begun kept offered = record {
   place_in = omega arith;
   fresh_in = omega arith;
   rest = refl;
-  sums = λ k d l. absurd (omega (arith, l));
 }
 
 no_loop : Signed
@@ -90,12 +85,6 @@ pass_kept kept offered place fresh p free h =
           ∙ kept_turn (take place kept) (merge signed_earlier (drop (place + 1) kept) (drop fresh offered)) k
           (λ sum. here.0 (in_from_spanned numbers (signatures (take place kept)) k.signature sum)))
           ∙ p.rest;
-      sums = λ j d l.
-          subst (λ xs. Spanned numbers xs (get_or offered j d).signature)
-          (sym (ap signatures front ∙ map-append (λ (c : Signed). c.signature) (take place kept) (k ∷ [])))
-          (spanned_from_in numbers (signatures (take place kept) ++ k.signature ∷ []) (get_or offered j d).signature
-          (in_left numbers (signatures (take place kept)) (k.signature ∷ []) (get_or offered j d).signature
-          (in_from_spanned numbers (signatures (take place kept)) (get_or offered j d).signature (p.sums j d l))));
     }
 
 -- one that was offered is, and is a sum of those before it
@@ -114,21 +103,7 @@ pass_offered kept offered place fresh d p l same h sum =
           ∙ ap (kept_after (take place kept)) given
           ∙ kept_over (take place kept) (merge signed_earlier (drop place kept) (drop (fresh + 1) offered)) d sum)
           ∙ p.rest;
-      sums = λ j e less. elim (cases_lt j fresh) [
-        | inl before ↦ p.sums j e before
-        | inr past ↦
-            let at : j ≡ fresh = omega (arith, less, past) in
-            subst (λ n. Spanned numbers (signatures (take place kept)) (get_or offered n e).signature) (sym at)
-            (subst (λ (x : Signed). Spanned numbers (signatures (take place kept)) x.signature)
-            (same ∙ get_or_default offered fresh d e l) sum)
-      ];
     }
-
--- it is where it has the signature of one before it
-pub pass_repeated : (kept offered : List Signed) (place fresh : ℕ) (d : Signed) → IsPassing kept offered place fresh →
-    d ≡ get_or offered fresh d → IsRepeated offered fresh → Spanned numbers (signatures (take place kept)) d.signature
-pass_repeated kept offered place fresh d p same (k, less, is) =
-    subst (Spanned numbers (signatures (take place kept))) (is d ∙ sym (ap (λ (x : Signed). x.signature) same)) (p.sums k d less)
 
 -- all that were offered are sums
 pub pass_ended : (kept offered : List Signed) (place fresh : ℕ) → IsPassing kept offered place fresh →

@@ -1,8 +1,7 @@
 -- Rows that come of sets one by one: the first rows span what the first sets span.
-use Rattle.surf_surfaces.proofs.Common.{ℕ, zero, suc, ◌≡◌, ◌<◌, ◌≤◌, ◌↔◌, List, [], ◌∷◌, ◌++◌, length, get_or, take, bit_xor, refl, sym, ap, subst, arith, inl, inr, append_assoc, append-nil, numbers, Spanned, Independent, InSpan, AllInSpan, Free, head_in, rest_in, trans_in, zero_in, in_from_spanned, spanned_from_in, free_from_independent}
-use Rattle.std.specs.Int.Bits.{xor_comm}
+use Rattle.surf_choice.proofs.Common.{ℕ, zero, suc, ◌≡◌, ◌<◌, ◌≤◌, ◌↔◌, List, [], ◌∷◌, ◌++◌, length, get_or, take, bit_xor, refl, sym, ap, subst, arith, inl, inr, append_assoc, append-nil, numbers, Spanned, Independent, AllInSpan, head_in, rest_in, trans_in, zero_in, in_from_spanned, spanned_from_in, free_from_independent, xor_comm, AreRowsAfter, AreRowsOf}
+use Rattle.surf_surfaces.proofs.Common.{InSpan, Free}
 use Rattle.surf_z2.proofs.Basics.{in_left, in_right, all_left, all_joined}
-use Rattle.surf_choice.specs.Echelons.{AreRowsAfter, AreRowsOf}
 
 -- two lists span the same
 abbrev pub AreAlike : List ℕ → List ℕ → Type 0

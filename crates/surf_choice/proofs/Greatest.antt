@@ -1,9 +1,7 @@
 -- Greatest numbers of sums of sets, where each set has one of its own.
-use Rattle.surf_surfaces.proofs.Common.{ℕ, zero, suc, ◌≡◌, ◌≢◌, ◌+◌, ◌-◌, ◌*◌, ◌<◌, ◌≤◌, ◌^◌, ◌⊎◌, List, [], ◌∷◌, ◌++◌, length, get_or, take, bit_xor, lit<, w64, refl, sym, ap, ◌∙◌, subst, arith, inl, inr, AllByRecursion, cases_lt, pow-le-pow_right, numbers, Independent, number, leading_zeros, pow-add, number_zero}
-use Rattle.std.specs.Int.Bits.{xor_block, xor_comm, xor_self}
-use Rattle.std.proofs.lemmas.Nat.{xor_lt, pow_pos, leading_top}
+use Rattle.surf_choice.proofs.Common.{ℕ, zero, suc, ◌≡◌, ◌≢◌, ◌+◌, ◌-◌, ◌*◌, ◌<◌, ◌≤◌, ◌^◌, ◌⊎◌, List, [], ◌∷◌, ◌++◌, length, get_or, take, bit_xor, lit<, w64, refl, sym, ap, ◌∙◌, subst, arith, inl, inr, AllByRecursion, cases_lt, pow-le-pow_right, numbers, Independent, number, leading_zeros, pow-add, number_zero, xor_block, xor_comm, xor_self, xor_lt, IsGreatest, AreLed}
+use Rattle.std.proofs.lemmas.Nat.{pow_pos, leading_top}
 use Rattle.surf_z2.proofs.Span.{InSpan, Free, cancel, same_from_sum, independent_from_free}
-use Rattle.surf_choice.specs.Echelons.{IsGreatest, AreLed}
 
 -- a set has one greatest number
 pub greatest_once : (x j k : ℕ) → IsGreatest j x → IsGreatest k x → j ≡ k

@@ -6,3 +6,4 @@ pub mod Changed
 pub mod Limits
 pub mod Longer
 pub mod Used
+pub mod Common

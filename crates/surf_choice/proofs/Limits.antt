@@ -1,12 +1,9 @@
 -- The place before which loops are still sought, when the choice is made again.
-use Rattle.surf_surfaces.proofs.Common.{◌≡◌, ℕ, suc, ◌<◌, ◌≤◌, ◌+◌, ◌*◌, ◌^◌, ◌-◌, ◌⊎◌, true, false, not, List, [], ◌∷◌, length, get_or, All, Contains, Option, Some, None, refl, sym, ap, ◌∙◌, subst, arith, inl, inr, IsTrue, nat_le, AllByRecursion, cases_Bool, false≢true, nat_tests, All-contains, All-from_recursion, merge, Sorted, sorted_from_order, Place, is_no_later, comes_sooner, IsNonDecreasingBy}
+use Rattle.surf_choice.proofs.Common.{◌≡◌, ℕ, suc, ◌<◌, ◌≤◌, ◌+◌, ◌*◌, ◌^◌, ◌-◌, ◌⊎◌, true, false, not, List, [], ◌∷◌, length, get_or, All, Contains, Option, Some, None, refl, sym, ap, ◌∙◌, subst, arith, inl, inr, IsTrue, nat_le, AllByRecursion, cases_Bool, false≢true, nat_tests, All-contains, All-from_recursion, Sorted, sorted_from_order, Place, is_no_later, comes_sooner, IsNonDecreasingBy, Signed, signed_earlier, place_of, is_sought, last_of, limit_of, order_of, stands_before}
+use Rattle.surf_surfaces.proofs.Common.{merge}
 use Rattle.surf_z2.proofs.Passing.{merged_by}
 use Rattle.surf_surfaces.proofs.bases.FewBasesLaws.{no_later_from, no_later-trans, no_later-same}
 use Rattle.surf_choice.specs.declared.candidate.Candidate.{Candidate}
-use Rattle.surf_choice.specs.declared.candidate.Signed.{Signed}
-use Rattle.surf_choice.specs.Candidates.{signed_earlier}
-use Rattle.surf_choice.specs.Places.{place_of, is_sought, last_of, limit_of, order_of}
-use Rattle.surf_choice.specs.Places.{stands_before}
 
 -- ---- the order of candidates and that of places
 

@@ -1,8 +1,5 @@
 -- Loops that are longer than those kept of which they are sums.
-use Rattle.surf_surfaces.proofs.Common.{◌≡◌, ℕ, suc, ◌<◌, ◌≤◌, ◌+◌, ◌-◌, List, [], ◌∷◌, ◌++◌, true, length, get_or, take, All, sym, ap, ◌∙◌, subst, arith, inl, inr, cases_eq, cases_lt, nat_tests, get_or_default, take_more, IsInOrder, numbers, Spanned, All-from_recursion, All-append}
-use Rattle.surf_choice.specs.declared.candidate.Signed.{Signed}
-use Rattle.surf_choice.specs.Candidates.{signatures, IsLonger, IsSumOfLength}
-use Rattle.surf_choice.specs.Places.{stands_before}
+use Rattle.surf_choice.proofs.Common.{◌≡◌, ℕ, suc, ◌<◌, ◌≤◌, ◌+◌, ◌-◌, List, [], ◌∷◌, ◌++◌, true, length, get_or, take, All, sym, ap, ◌∙◌, subst, arith, inl, inr, cases_eq, cases_lt, nat_tests, get_or_default, take_more, IsInOrder, numbers, Spanned, All-from_recursion, All-append, Signed, signatures, IsLonger, IsSumOfLength, stands_before}
 
 -- one that stands before another is no longer
 stands_no_longer : (c d : Signed) → stands_before c d ≡ true → c.candidate.length ≤ d.candidate.length

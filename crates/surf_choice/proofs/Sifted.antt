@@ -1,9 +1,7 @@
 -- The choice of the independent candidates of a list, one after another.
-use Rattle.surf_surfaces.proofs.Common.{◌≡◌, ℕ, ◌+◌, ◌<◌, ◌≤◌, ◌^◌, true, false, Bool, List, [], ◌∷◌, ◌++◌, length, get_or, drop, map, All, refl, sym, ap, ◌∙◌, subst, append_assoc, arith, take, ◌↔◌, inl, inr, AllByRecursion, cases_Bool, recursion_from_All, All-from_recursion, All-permutation, merge, numbers, is_nothing, chosen, Spanned, Decides-is_nothing, spanned_from_in, at_drop_more, at_drop_all, append-nil, map-append, length-map, take_all, greedy_after, spans, same_members}
+use Rattle.surf_choice.proofs.Common.{◌≡◌, ℕ, ◌+◌, ◌<◌, ◌≤◌, ◌^◌, true, false, Bool, List, [], ◌∷◌, ◌++◌, length, get_or, drop, map, All, refl, sym, ap, ◌∙◌, subst, append_assoc, arith, take, ◌↔◌, inl, inr, AllByRecursion, cases_Bool, recursion_from_All, All-from_recursion, All-permutation, numbers, is_nothing, chosen, Spanned, Decides-is_nothing, spanned_from_in, at_drop_more, at_drop_all, append-nil, map-append, length-map, take_all, greedy_after, spans, same_members, Signed, signed_earlier, independent_of, signatures, kept_after, AreRowsOf, IsAdmitted}
+use Rattle.surf_surfaces.proofs.Common.{merge}
 use Rattle.surf_z2.proofs.Greedy.{spans_law, not_spans, greedy_law}
-use Rattle.surf_choice.specs.declared.candidate.Signed.{Signed}
-use Rattle.surf_choice.specs.Candidates.{signed_earlier, independent_of, signatures, kept_after}
-use Rattle.surf_choice.specs.Echelons.{AreRowsOf, IsAdmitted}
 use Rattle.surf_choice.proofs.Fronts.{front_spanned, rows_count, rows_more}
 
 -- the choice has come to a place: what is kept, with what is kept of the candidates to come, is the whole, and the rows

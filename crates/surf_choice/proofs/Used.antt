@@ -1,6 +1,6 @@
 -- How many of the first rows it takes to reduce a set: as many as it takes to make it a sum of some of them.
-use Rattle.surf_surfaces.proofs.Common.{ℕ, zero, suc, ◌≡◌, ◌≢◌, ◌+◌, ◌<◌, ◌≤◌, List, [], ◌∷◌, length, get_or, take, bit_xor, sym, ap, ◌∙◌, subst, arith, inl, inr, slice_index, ◌⊎◌, AllByRecursion, cases_lt, get_or-take, length-take-le, take_all, numbers, Spanned, InSpan, zero_in, spanned_from_in, xor_self}
-use Rattle.surf_choice.specs.Echelons.{IsGreatest, IsEchelon, AreLed}
+use Rattle.surf_choice.proofs.Common.{ℕ, zero, suc, ◌≡◌, ◌≢◌, ◌+◌, ◌<◌, ◌≤◌, List, [], ◌∷◌, length, get_or, take, bit_xor, sym, ap, ◌∙◌, subst, arith, inl, inr, slice_index, ◌⊎◌, AllByRecursion, cases_lt, get_or-take, length-take-le, take_all, numbers, Spanned, zero_in, spanned_from_in, xor_self, IsGreatest, IsEchelon, AreLed}
+use Rattle.surf_surfaces.proofs.Common.{InSpan}
 use Rattle.surf_choice.proofs.Admitted.{at_other, differ_more, left_none, left_some}
 use Rattle.surf_choice.proofs.Fronts.{row_in, spanned_more}
 use Rattle.surf_choice.proofs.Greatest.{led_count, led_front}

@@ -45,11 +45,6 @@ pub record IsChange (kept offered : List Signed) (place fresh : ℕ) : Type 0 wh
   pub rest : kept_after (take place kept) (merge signed_earlier (drop place kept) (drop fresh offered))
       ≡ independent_of (merge signed_earlier kept offered)
 
--- a candidate has the signature of one before it
-abbrev pub IsRepeated : List Signed → ℕ → Type 0
-IsRepeated offered fresh = (k : ℕ) × (k < fresh)
-    × ((d : Signed) → (slice_index_or offered k d).signature ≡ (slice_index_or offered fresh d).signature)
-
 -- how many candidates may be independent, and those that are kept
 pub record Chosen : Type 0 where
   pub width : ℕ

@@ -2,13 +2,12 @@
 ghost use Rattle.std.specs.Prelude.{◌≡◌, ◌<◌, ◌≤◌, ◌+◌, ◌^◌, List, All, MatchOption, length, true, vec_capacity};
 ghost use Rattle.surf_z2.specs.Order.{merge};
 ghost use Rattle.surf_choice.specs.Candidates.{signed_earlier, has_next, independent_of, candidates, signatures};
-ghost use Rattle.surf_choice.specs.Candidates.{kept_after, IsChange, IsRepeated};
+ghost use Rattle.surf_choice.specs.Candidates.{kept_after, IsChange};
 ghost use Rattle.surf_choice.specs.Echelons.{AreRowsOf};
 ghost use Rattle.surf_choice.specs.declared.candidate.Signed.{Signed};
 
 use crate::candidate::{Candidate, Signed, comes_before, copy_of};
 use crate::echelon::Echelon;
-use surf_bits::Bits;
 
 // Whether the first of two lists in order has the next candidate.
 fn goes_first(first: &[Signed], second: &[Signed]) -> bool
@@ -70,38 +69,8 @@ pub(crate) fn list_keys(kept: &[Signed], keys: &mut Vec<Candidate>)
     }
 }
 
-// How many slots there are for what was seen.
-const SLOTS: usize = 1024;
-
-// A slot for a set, the same for sets that are the same.
-fn slot_of(set: &Bits<'_>) -> usize
-    requires small { set.now < 2 ^ 1024 }
-    ensures slot { result < 1024 }
-{
-    let mut words = [0u64; 16];
-    set.add_to(&mut words);
-    let mut hash = 0u64;
-    for word in words {
-        hash = (hash.rotate_left(23) ^ word).wrapping_mul(0x9e37_79b9_7f4a_7c15);
-    }
-    (hash >> 32) as usize % SLOTS
-}
-
-// Whether a candidate has the signature of an earlier one.
-fn is_repeated(offered: &[Signed], fresh: usize, earlier: usize) -> bool
-    requires fresh { fresh < length offered.now }
-    ensures repeated { result ≡ true → IsRepeated offered.now fresh }
-{
-    earlier < fresh
-        && offered[earlier]
-            .signature
-            .bits()
-            .is_same(&offered[fresh].signature.bits())
-}
-
 // Where the choice from those kept and others in order differs from those kept, if it does. The
-// rows are those of the signatures that are kept. Of many candidates with one signature only the
-// first is asked of the rows, as far as slots tell. (Keys lie closer together than what is kept.)
+// rows are those of the signatures that are kept. (Keys lie closer together than what is kept.)
 pub(crate) fn first_change(
     kept: &[Signed],
     keys: &[Candidate],
@@ -116,7 +85,6 @@ pub(crate) fn first_change(
         (λ c. IsChange kept.now offered.now c.place c.fresh) }
 {
     rows.law_of_echelon();
-    let mut seen = [usize::MAX; SLOTS];
     let mut place = 0;
     let mut fresh = 0;
     while fresh < offered.len() {
@@ -124,12 +92,8 @@ pub(crate) fn first_change(
             place += 1;
         } else {
             let set = offered[fresh].signature.bits();
-            let slot = slot_of(&set);
-            if !is_repeated(offered, fresh, seen[slot]) {
-                if !rows.spans(place, &set) {
-                    return Some(Change { place, fresh });
-                }
-                seen[slot] = fresh;
+            if !rows.spans(place, &set) {
+                return Some(Change { place, fresh });
             }
             fresh += 1;
         }

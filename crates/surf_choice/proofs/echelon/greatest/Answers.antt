@@ -1,5 +1,4 @@
-use Rattle.surf_surfaces.proofs.Common.{ℕ, ◌≡◌, ◌<◌, ◌^◌, ◌+◌, ◌-◌, ◌*◌, get_or, length, sym, subst, arith, w64, leading_zeros, number, number_zero}
-use Rattle.surf_choice.specs.Echelons.{IsGreatest}
+use Rattle.surf_choice.proofs.Common.{ℕ, ◌≡◌, ◌<◌, ◌^◌, ◌+◌, ◌-◌, ◌*◌, get_or, length, sym, subst, arith, w64, leading_zeros, number, number_zero, IsGreatest}
 use Rattle.surf_choice.proofs.Greatest.{number_greatest, word_greatest}
 use Rattle.surf_choice.proofs.echelon.greatest.Goals as goal
 

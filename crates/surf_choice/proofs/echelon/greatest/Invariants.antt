@@ -1,4 +1,4 @@
-use Rattle.std.proofs.Common.{ℕ, ◌≡◌, ◌≤◌, get_or}
+use Rattle.surf_choice.proofs.Common.{ℕ, ◌≡◌, ◌≤◌, get_or}
 use Rattle.surf_choice.proofs.echelon.greatest.Given as goal
 
 -- the words from i on are zero

@@ -1,4 +1,4 @@
-use Rattle.surf_surfaces.proofs.Common.{◌≡◌, ◌<◌, ◌≤◌, ◌*◌, ◌^◌, length, bit_xor, sym, ◌∙◌, subst, arith, xor_lt, numbers, Spanned, number}
+use Rattle.surf_choice.proofs.Common.{◌≡◌, ◌<◌, ◌≤◌, ◌*◌, ◌^◌, length, bit_xor, sym, ◌∙◌, subst, arith, xor_lt, numbers, Spanned, number}
 use Rattle.surf_choice.proofs.Admitted.{row_step, differ_more, words_enough}
 use Rattle.surf_choice.proofs.Greatest.{exponent_below, led_count}
 use Rattle.surf_choice.proofs.echelon.reduce.Goals as goal

@@ -1,4 +1,4 @@
-use Rattle.surf_surfaces.proofs.Common.{◌≡◌, ◌<◌, ◌^◌, length, bit_xor, numbers, Spanned, number}
+use Rattle.surf_choice.proofs.Common.{◌≡◌, ◌<◌, ◌^◌, length, bit_xor, numbers, Spanned, number}
 use Rattle.surf_choice.proofs.echelon.reduce.Given as goal
 
 -- what is left differs from the set by a sum of rows

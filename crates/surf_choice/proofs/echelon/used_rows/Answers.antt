@@ -1,4 +1,4 @@
-use Rattle.surf_surfaces.proofs.Common.{◌≡◌, ◌<◌, ◌≤◌, ◌*◌, ◌^◌, length, bit_xor, refl, sym, ◌∙◌, subst, arith, xor_lt, number}
+use Rattle.surf_choice.proofs.Common.{◌≡◌, ◌<◌, ◌≤◌, ◌*◌, ◌^◌, length, bit_xor, refl, sym, ◌∙◌, subst, arith, xor_lt, number}
 use Rattle.surf_choice.proofs.Admitted.{row_step, rows_few, words_enough}
 use Rattle.surf_choice.proofs.Greatest.{exponent_below, led_count}
 use Rattle.surf_choice.proofs.Used.{used_none, used_more, used_past, used_all}

@@ -1,4 +1,4 @@
-use Rattle.surf_surfaces.proofs.Common.{◌≡◌, ◌<◌, ◌^◌, length, number}
+use Rattle.surf_choice.proofs.Common.{◌≡◌, ◌<◌, ◌^◌, length, number}
 use Rattle.surf_choice.proofs.Used.{IsUsed}
 use Rattle.surf_choice.proofs.echelon.used_rows.Given as goal
 

@@ -1,25 +1,14 @@
-use Rattle.surf_surfaces.proofs.Common.{◌<◌, ◌^◌, take, sym, ◌∙◌, subst, arith, numbers, Spanned}
-use Rattle.surf_choice.proofs.Changed.{pass_kept, pass_offered, pass_repeated, pass_ended, pass_changes, rows_span_front, keys_next}
+use Rattle.surf_choice.proofs.Common.{take, sym, ◌∙◌, subst, arith, numbers, Spanned, Signed, signatures}
+use Rattle.surf_choice.proofs.Changed.{pass_kept, pass_offered, pass_ended, pass_changes, rows_span_front, keys_next}
 use Rattle.surf_choice.proofs.Fronts.{rows_fresh}
-use Rattle.surf_choice.proofs.Admitted.{words_enough}
 use Rattle.surf_choice.proofs.Sifted.{as_many}
-use Rattle.surf_choice.specs.declared.candidate.Signed.{Signed}
-use Rattle.surf_choice.specs.Candidates.{signatures}
 use Rattle.surf_choice.proofs.merging.first_change.Goals as goal
-use Rattle.surf_choice.proofs.merging.first_change.Goals.{then-not-is_repeated+else-not-spans, else-not-is_repeated}
 
 pub loop-fresh-preserved-then-is_next : goal.loop-fresh-preserved-then-is_next
 loop-fresh-preserved-then-is_next c =
     pass_kept c.args.kept.now c.args.offered.now c.loop-fresh.place c.loop-fresh.fresh c.loop-fresh.invariant
     (rows_fresh c.args.rows.now.rows (signatures c.args.kept.now) c.law_of_echelon.ensures.independent c.requires.rows)
     (keys_next c.loop-fresh.place c.loop-fresh.fresh c.args.kept.now c.args.offered.now c.args.keys.now c.is_next.result c.requires.keys c.is_next.ensures.next ∙ c.if-is_next.true)
-
-pub slot_of-slot-requires : goal.slot_of-slot-requires
-slot_of-slot-requires c = record {
-  small = words_enough c.args.rows.now.width c.bits-set.result c.law_of_echelon.ensures.width
-      (subst (λ n. n < 2 ^ c.args.rows.now.width) (sym c.bits-set.ensures)
-      (c.requires.small c.loop-fresh.fresh c.index-offered-fresh.result c.loop-fresh-test.true));
-}
 
 pub spans-requires-clause-count : goal.spans-requires-clause-count
 spans-requires-clause-count c =
@@ -33,17 +22,12 @@ loop-fresh-preserved c =
     let x = c.index-offered-fresh.result in
     let place = c.loop-fresh.place in
     let fresh = c.loop-fresh.fresh in
-    let next = pass_offered kept offered place fresh x c.loop-fresh.invariant c.loop-fresh-test.true c.index-offered-fresh.is
-    (keys_next place fresh kept offered c.args.keys.now c.is_next.result c.requires.keys c.is_next.ensures.next ∙ c.if-is_next.false) in
-    elim c.if-not-is_repeated.branch [
-      | then-not-is_repeated+else-not-spans w ↦
-          let sum : Spanned numbers (take place c.args.rows.now.rows) x.signature =
-          subst (λ (y : Signed). Spanned numbers (take place c.args.rows.now.rows) y.signature) (sym c.index-offered-fresh.is)
-          (subst (Spanned numbers (take place c.args.rows.now.rows)) c.bits-set.ensures (rw w.if-not-spans.false at w.spans.ensures.sum)) in
-          next ((rows_span_front c.args.rows.now.rows kept place x.signature c.requires.rows).0 sum)
-      | else-not-is_repeated w ↦ next (pass_repeated kept offered place fresh x c.loop-fresh.invariant c.index-offered-fresh.is
-          (c.is_repeated.ensures.repeated w.if-not-is_repeated.false))
-    ]
+    let sum : Spanned numbers (take place c.args.rows.now.rows) x.signature =
+    subst (λ (y : Signed). Spanned numbers (take place c.args.rows.now.rows) y.signature) (sym c.index-offered-fresh.is)
+    (subst (Spanned numbers (take place c.args.rows.now.rows)) c.bits-set.ensures (rw c.if-not-spans.false at c.spans.ensures.sum)) in
+    pass_offered kept offered place fresh x c.loop-fresh.invariant c.loop-fresh-test.true c.index-offered-fresh.is
+    (keys_next place fresh kept offered c.args.keys.now c.is_next.result c.requires.keys c.is_next.ensures.next ∙ c.if-is_next.false)
+    ((rows_span_front c.args.rows.now.rows kept place x.signature c.requires.rows).0 sum)
 
 pub returns-then-not-spans : goal.returns-then-not-spans
 returns-then-not-spans c =

@@ -1,4 +1,4 @@
-use Rattle.std.proofs.Common.{◌+◌, ◌-◌, length}
+use Rattle.surf_choice.proofs.Common.{◌+◌, ◌-◌, length}
 use Rattle.surf_choice.proofs.Changed.{IsPassing}
 use Rattle.surf_choice.proofs.merging.first_change.Given as goal
 

@@ -1,5 +1,4 @@
-use Rattle.std.proofs.Common.{◌≡◌, ◌≤◌, take, vec_capacity}
-use Rattle.surf_choice.specs.Candidates.{candidates}
+use Rattle.surf_choice.proofs.Common.{◌≡◌, ◌≤◌, take, vec_capacity, candidates}
 use Rattle.surf_choice.proofs.merging.list_keys.Given as goal
 
 abbrev pub invariant-loop-signed : goal.invariant-loop-signed

@@ -1,6 +1,5 @@
-use Rattle.std.proofs.Common.{◌≡◌, ◌≤◌, ◌+◌, ◌++◌, length, vec_len, vec_capacity}
+use Rattle.surf_choice.proofs.Common.{◌≡◌, ◌≤◌, ◌+◌, ◌++◌, length, vec_len, vec_capacity, signed_earlier}
 use Rattle.surf_z2.specs.Order.{merge}
-use Rattle.surf_choice.specs.Candidates.{signed_earlier}
 use Rattle.surf_choice.proofs.merging.merge.Given as goal
 
 -- what is listed, with what is still to come, is all

@@ -1,6 +1,4 @@
-use Rattle.surf_surfaces.proofs.Common.{ℕ, List, length, ◌+◌, ◌≡◌, ◌++◌, ◌∷◌, [], refl, ap, ◌∙◌, subst, arith, length-append, numbers, Spanned}
-use Rattle.surf_choice.specs.Candidates.{kept_after}
-use Rattle.surf_choice.specs.Echelons.{IsAdmitted}
+use Rattle.surf_choice.proofs.Common.{ℕ, List, length, ◌+◌, ◌≡◌, ◌++◌, ◌∷◌, [], refl, ap, ◌∙◌, subst, arith, length-append, numbers, Spanned, kept_after, IsAdmitted}
 use Rattle.surf_choice.proofs.Sifted.{sifted_kept, sifted_out, sifted, as_many}
 use Rattle.surf_choice.proofs.merging.sift.Goals as goal
 use Rattle.surf_choice.proofs.merging.sift.Goals.{then-admit, else-admit}

@@ -1,5 +1,4 @@
-use Rattle.std.proofs.Common.{◌≡◌, ◌≤◌, vec_capacity}
-use Rattle.surf_choice.specs.Candidates.{kept_after}
+use Rattle.surf_choice.proofs.Common.{◌≡◌, ◌≤◌, vec_capacity, kept_after}
 use Rattle.surf_choice.proofs.Sifted.{IsSifting}
 use Rattle.surf_choice.proofs.merging.sift.Given as goal
 

@@ -1,7 +1,4 @@
-use Rattle.surf_surfaces.proofs.Common.{◌≡◌, ◌<◌, ◌^◌, List, length, [], take, refl, sym, ap, ◌∙◌, subst, arith, take-map}
-use Rattle.surf_choice.specs.declared.candidate.Signed.{Signed}
-use Rattle.surf_choice.specs.Candidates.{Chosen, signed_earlier, candidates, signatures}
-use Rattle.surf_choice.specs.Echelons.{Rows, AreRowsOf}
+use Rattle.surf_choice.proofs.Common.{◌≡◌, ◌<◌, ◌^◌, List, length, [], take, refl, sym, ap, ◌∙◌, subst, arith, take-map, Signed, Chosen, signed_earlier, candidates, signatures, Rows, AreRowsOf}
 use Rattle.surf_choice.proofs.Changed.{part_small, front_small, kept_after_small}
 use Rattle.surf_choice.proofs.Fronts.{rows_front}
 use Rattle.surf_choice.proofs.Sifted.{AreSmall, all_merged, as_many}

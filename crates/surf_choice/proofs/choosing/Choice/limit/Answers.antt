@@ -1,7 +1,4 @@
-use Rattle.surf_surfaces.proofs.Common.{◌≡◌, ◌<◌, ◌-◌, true, List, length, get_or, Some, sym, ap, ◌∙◌, subst, arith, nat_le, le-leb}
-use Rattle.surf_choice.specs.declared.candidate.Signed.{Signed}
-use Rattle.surf_choice.specs.Candidates.{Chosen}
-use Rattle.surf_choice.specs.Places.{limit_of}
+use Rattle.surf_choice.proofs.Common.{◌≡◌, ◌<◌, ◌-◌, true, List, length, get_or, Some, sym, ap, ◌∙◌, subst, arith, nat_le, le-leb, Signed, Chosen, limit_of}
 use Rattle.surf_choice.proofs.Limits.{limit_last, last_at}
 use Rattle.surf_choice.proofs.choosing.Choice.limit.Goals as goal
 

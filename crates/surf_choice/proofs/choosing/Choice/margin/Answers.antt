@@ -1,6 +1,4 @@
-use Rattle.surf_surfaces.proofs.Common.{List, All, ◌≤◌, sym, subst, arith, take_all}
-use Rattle.surf_choice.specs.declared.candidate.Signed.{Signed}
-use Rattle.surf_choice.specs.Candidates.{IsLonger}
+use Rattle.surf_choice.proofs.Common.{List, All, ◌≤◌, sym, subst, arith, take_all, Signed, IsLonger}
 use Rattle.surf_choice.proofs.Longer.{longer_less, longer_more}
 use Rattle.surf_choice.proofs.choosing.Choice.margin.Goals as goal
 

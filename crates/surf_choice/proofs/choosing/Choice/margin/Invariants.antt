@@ -1,6 +1,4 @@
-use Rattle.surf_surfaces.proofs.Common.{ℕ, ◌≢◌, ◌≤◌, All, take, IsInOrder}
-use Rattle.surf_choice.specs.Places.{stands_before}
-use Rattle.surf_choice.specs.Candidates.{IsLonger}
+use Rattle.surf_choice.proofs.Common.{ℕ, ◌≢◌, ◌≤◌, All, take, IsInOrder, stands_before, IsLonger}
 use Rattle.surf_choice.proofs.choosing.Choice.margin.Given as goal
 
 abbrev pub invariant-loop-signed : goal.invariant-loop-signed

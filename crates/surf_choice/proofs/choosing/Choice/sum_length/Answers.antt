@@ -1,7 +1,4 @@
-use Rattle.surf_surfaces.proofs.Common.{◌≡◌, ℕ, ◌<◌, ◌≤◌, ◌-◌, take, length, get_or, sym, ap, subst, ◌∙◌, arith, get_or_default, take_all, IsInOrder, numbers, Spanned}
-use Rattle.surf_choice.specs.declared.candidate.Signed.{Signed}
-use Rattle.surf_choice.specs.Candidates.{Chosen, signatures, IsSumOfLength}
-use Rattle.surf_choice.specs.Places.{stands_before}
+use Rattle.surf_choice.proofs.Common.{◌≡◌, ℕ, ◌<◌, ◌≤◌, ◌-◌, take, length, get_or, sym, ap, subst, ◌∙◌, arith, get_or_default, take_all, IsInOrder, numbers, Spanned, Signed, Chosen, signatures, IsSumOfLength, stands_before}
 use Rattle.surf_choice.proofs.Fronts.{spanned_more}
 use Rattle.surf_choice.proofs.Changed.{rows_span_front}
 use Rattle.surf_choice.proofs.Longer.{sum_no_longer}

@@ -1,5 +1,4 @@
-use Rattle.surf_surfaces.proofs.Common.{ℕ, List, ◌≡◌, ◌≢◌, length, set, bit_xor, ap, ◌∙◌, subst, arith, AllByRecursion, length-set, numbers, Spanned, number, xor_zero_l}
-use Rattle.surf_choice.specs.Echelons.{Rows}
+use Rattle.surf_choice.proofs.Common.{ℕ, List, ◌≡◌, ◌≢◌, length, set, bit_xor, ap, ◌∙◌, subst, arith, AllByRecursion, length-set, numbers, Spanned, number, xor_zero_l, Rows}
 use Rattle.surf_choice.proofs.Admitted.{rows_few, row_room, echelon_more, words_enough, left_some, left_at}
 use Rattle.surf_choice.proofs.Greatest.{led_count, exponent_below}
 use Rattle.surf_choice.proofs.echelon.Echelon.admit.Goals as goal

@@ -1,5 +1,4 @@
-use Rattle.surf_surfaces.proofs.Common.{◌≤◌, length, subst, Independent, numbers}
-use Rattle.surf_choice.specs.Echelons.{Rows}
+use Rattle.surf_choice.proofs.Common.{◌≤◌, length, subst, Independent, numbers, Rows}
 use Rattle.surf_choice.proofs.Admitted.{rows_few}
 use Rattle.surf_choice.proofs.Greatest.{independent_led}
 use Rattle.surf_choice.proofs.echelon.Echelon.law_of_echelon.Goals as goal

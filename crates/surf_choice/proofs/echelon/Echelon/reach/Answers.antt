@@ -1,5 +1,4 @@
-use Rattle.surf_surfaces.proofs.Common.{ℕ, List, ◌≡◌, ◌<◌, take, ◌∙◌, subst, IfSome, numbers, Spanned, number, xor_zero_l}
-use Rattle.surf_choice.specs.Echelons.{Rows}
+use Rattle.surf_choice.proofs.Common.{ℕ, List, ◌≡◌, ◌<◌, take, ◌∙◌, subst, IfSome, numbers, Spanned, number, xor_zero_l, Rows}
 use Rattle.surf_choice.proofs.Admitted.{words_enough}
 use Rattle.surf_choice.proofs.echelon.Echelon.reach.Goals as goal
 

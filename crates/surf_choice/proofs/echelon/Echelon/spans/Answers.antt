@@ -1,6 +1,4 @@
-use Rattle.std.proofs.Common.{ℕ, List, ◌≡◌, ◌≤◌, length, take, bit_xor, MatchBool, sym, ap, ◌∙◌, subst, arith}
-use Rattle.surf_surfaces.proofs.Common.{xor_zero_l, length-take-le, numbers, Spanned, number}
-use Rattle.surf_choice.specs.Echelons.{Rows, IsEchelon}
+use Rattle.surf_choice.proofs.Common.{ℕ, List, ◌≡◌, ◌≤◌, length, take, bit_xor, MatchBool, sym, ap, ◌∙◌, subst, arith, xor_zero_l, length-take-le, numbers, Spanned, number, Rows, IsEchelon}
 use Rattle.surf_choice.proofs.Admitted.{echelon_front, words_enough, left_tells}
 use Rattle.surf_choice.proofs.Greatest.{led_count}
 use Rattle.surf_choice.proofs.echelon.Echelon.spans.Goals as goal

@@ -1,4 +1,4 @@
-use Rattle.std.proofs.Common.{arith}
+use Rattle.surf_choice.proofs.Common.{arith}
 use Rattle.surf_choice.proofs.Admitted.{echelon_front}
 use Rattle.surf_choice.proofs.echelon.Echelon.truncate.Goals as goal
 
