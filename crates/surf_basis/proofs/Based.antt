@@ -1,13 +1,12 @@
 -- The loops that a search finds at a base, and those of them that are chosen.
-use Rattle.surf_search.proofs.Common.{◌≡◌, ℕ, ◌+◌, ◌^◌, ◌<◌, ◌≤◌, ◌++◌, Bool, true, false, not, cond, List, [], ◌∷◌, length, get_or, map, filter, take, All, Contains, IsPermutation, Some, ◌⊎◌, refl, sym, ap, ◌∙◌, subst, arith, inl, inr, IsTrue, ◌==◌, AllByRecursion, cases_Bool, false≢true, le-leb, or_cases, eqb-true, nat_tests, length-map, get_or-map, take_more, map-append, merge, all_filtered, Split, IsSplit, Tree, Mesh, edge_count, IsSurface, ArePositive, IsNull, cells_of, class_of, AreShortestTrees, loop_walk, loop_length, Trees, AreChosen, Loop, comes_before, loop_at, loops_at, place_at, comes_sooner, least_base, IsNonDecreasingBy, recursion_from_All, All-from_recursion, All-contains, Contains-get_or, filter_more, Contains-permutation, All-permutation, contains-map, choice_exists, least_base_on_way, shortest_trees, all_each, all_mapped, IsLoopAt, loops_each, CotreeTables, Candidate, Signed, Chosen, signed_earlier, independent_of, place_of, is_sought, order_of, all_kept, has_length, AreSigned, IsFound, AreFoundBy, AreFound, IsNext}
-use Rattle.surf_basis.proofs.Common.{based_at, IsOffered, AreOffered, loop_in, loops_in, IsSigned}
-use Rattle.surf_surfaces.proofs.Common.{is_left}
-use Rattle.std.proofs.lemmas.List.Sorted.{IsPermutation-refl}
+use Rattle.surf_basis.proofs.Common.{based_at, IsOffered, AreOffered, loop_in, loops_in, IsSigned, ◌≡◌, ℕ, ◌+◌, ◌^◌, ◌<◌, ◌≤◌, ◌++◌, Bool, true, false, not, cond, List, [], ◌∷◌, length, get_or, map, filter, take, All, Contains, IsPermutation, Some, ◌⊎◌, refl, sym, ap, ◌∙◌, subst, arith, inl, inr, IsTrue, ◌==◌, AllByRecursion, cases_Bool, false≢true, le-leb, or_cases, eqb-true, nat_tests, length-map, get_or-map, take_more, map-append, all_filtered, Split, IsSplit, Tree, Mesh, edge_count, IsSurface, ArePositive, IsNull, cells_of, class_of, AreShortestTrees, loop_walk, loop_length, comes_before, loop_at, loops_at, comes_sooner, least_base, IsNonDecreasingBy, recursion_from_All, All-from_recursion, All-contains, Contains-get_or, filter_more, Contains-permutation, All-permutation, contains-map, choice_exists, least_base_on_way, shortest_trees, all_each, all_mapped, IsLoopAt, loops_each, CotreeTables, Candidate, Signed, Chosen, signed_earlier, independent_of, place_of, is_sought, order_of, all_kept, has_length, AreSigned, AreFoundBy, AreFirstFound, HasNoLater, precedes, IsShort, IsNext, is_left, class_small, zero_null}
+use Rattle.surf_search.proofs.Common.{merge, Trees, AreChosen, Loop, place_at, IsFound}
+use Rattle.surf_search.specs.declared.told_loops.Ties.TheVariants.{LesserBase, LesserEdge}
+use Rattle.std.proofs.lemmas.List.Sorted.{IsPermutation-append_right, IsPermutation-refl, IsPermutation-trans}
 use Rattle.surf_firsts.specs.Firsts.{is_no_later, is_up_to, loops_up_to, IsLoopUpTo, AreLoopsUpTo}
 use Rattle.surf_firsts.proofs.FirstLoops.{each_in, filter_twice, first_loops}
 use Rattle.surf_basis.proofs.Kept.{kept_after}
-use Rattle.surf_search.proofs.Signed.{class_small}
-use Rattle.surf_search.proofs.Searched.{zero_null}
+use Rattle.surf_search.proofs.LeftOut.{IsRepeated, all_left, all_right, left_out, precedes_order, put_in, put_same}
 use Rattle.surf_search.proofs.Told.{sooner_size}
 
 -- a candidate is the loop of its edge at the base, with its class, and at most so long
@@ -238,18 +237,57 @@ sorted_of old new based none (inr m) = (
   ap (λ (c : Chosen). c.kept) m.new_is ∙ ap (λ ks. independent_of (merge signed_earlier ks m.list)) none,
 )
 
+-- what precedes does so as a loop of the same base
+precedes_based : (z : ℕ) (c d : Signed) → precedes LesserEdge c.candidate d.candidate ≡ true →
+    precedes LesserBase (based_at z c).candidate (based_at z d).candidate ≡ true
+precedes_based z c d on = grind (arith, nat_tests)
+
+-- with those that are left out as loops of the base they are loops in order, of which the same are chosen
+with_left : (z : ℕ) (left found list : List Signed) → All IsShort (map (based_at z) (left ++ found)) → All (HasNoLater LesserEdge found) left →
+    IsPermutation (map (based_at z) found) list → IsNonDecreasingBy order_of list →
+    (whole : List Signed) × IsPermutation (map (based_at z) (left ++ found)) whole × IsNonDecreasingBy order_of whole
+    × (independent_of whole ≡ independent_of list)
+with_left z left found list short no_later same sorted =
+    let own = map (based_at z) left in
+    let based = map (based_at z) found in
+    let parts = subst (All IsShort) (map-append (based_at z) left found) short in
+    let based_short = all_right IsShort own based parts in
+    let repeated : All (IsRepeated list) own = All-from_recursion (IsRepeated list) own (all_mapped (IsRepeated list) (based_at z) left
+    (all_each (HasNoLater LesserEdge found) (λ s. IsRepeated list (based_at z s)) left (λ s n.
+    (let has = contains-map (based_at z) found n.loop n.listed in (
+      based_at z n.loop,
+      Contains-permutation based list (based_at z n.loop) same has,
+      n.class,
+      precedes_order (based_at z n.loop) (based_at z s) (All-contains IsShort based (based_at z n.loop) based_short has)
+          (precedes_based z n.loop s n.no_later),
+    ))) (recursion_from_All (HasNoLater LesserEdge found) left no_later))) in
+    let (order, chosen) = left_out own list (all_left IsShort own based parts) (All-permutation IsShort based list same based_short) sorted repeated in (
+      put_in own list,
+      subst (λ xs. IsPermutation xs (put_in own list)) (sym (map-append (based_at z) left found))
+          (IsPermutation-trans (own ++ based) (own ++ list) (put_in own list) (IsPermutation-append_right own based list same) (put_same own list)),
+      order,
+      chosen [],
+    )
+
 pub offered_at : (mesh : Mesh) (lengths : List ℕ) → IsSurface mesh → ArePositive mesh lengths → edge_count mesh ≤ 2 ^ 32 →
     mesh.vertices < 2 ^ 32 → (s : CotreeTables) (some : List ℕ) (z : ℕ) → z < mesh.vertices → (limit : Candidate) → limit.base ≡ 4294967295 →
     (found based kept loops : List Signed) (old new : Chosen) → All (λ n. n ≤ limit.length) some →
-    AreFound mesh lengths s (Some limit) z found → based ≡ map (based_at z) found → old.kept ≡ [] → IsNext old based new →
+    AreFirstFound LesserEdge mesh lengths s (Some limit) z found → based ≡ map (based_at z) found → old.kept ≡ [] → IsNext old based new →
     kept ≡ new.kept → loops ≡ filter (λ (c : Signed). has_length some c.candidate.length) kept → AreOffered mesh lengths s some z loops
-offered_at mesh lengths surface positive few vertices_few s some z z_in limit last found based kept loops old new within are based_is
+offered_at mesh lengths surface positive few vertices_few s some z z_in limit last found based kept loops old new within first based_is
     none next kept_is is trees chosen d split signs =
     let (list, same, sorted, chosen_is) = sorted_of old new based none next in
-    offered_of mesh lengths surface positive few vertices_few trees chosen d split z z_in limit last found list (are trees chosen d signs)
-    (subst (λ cs. IsPermutation cs list) based_is same) sorted some loops
+    let all = first.left ++ found in
+    let are = first.are trees chosen d signs in
+    let Right : Signed → Type 0 = IsFound mesh lengths (λ x. (trees x).tree) d in
+    let short : All IsShort (map (based_at z) all) = All-from_recursion IsShort (map (based_at z) all) (all_mapped IsShort (based_at z) all
+    (all_each Right (λ s. IsShort (based_at z s)) all
+    (λ s r. record { base = omega (arith, z_in, vertices_few); edge = omega (arith, r.edge_in, few) }) (recursion_from_All Right all are.each))) in
+    let (whole, moved, order, alike) = with_left z first.left found list short first.no_later
+    (subst (λ cs. IsPermutation cs list) based_is same) sorted in
+    offered_of mesh lengths surface positive few vertices_few trees chosen d split z z_in limit last all whole are moved order some loops
     (recursion_from_All (λ n. n ≤ limit.length) some within)
-    (is ∙ ap (filter (λ (c : Signed). has_length some c.candidate.length)) (kept_is ∙ chosen_is))
+    (is ∙ ap (filter (λ (c : Signed). has_length some c.candidate.length)) (kept_is ∙ chosen_is ∙ sym alike))
 
 -- classes are as small as there are left edges
 pub based_small : (z width : ℕ) (found based : List Signed) → All (λ c. c.signature < 2 ^ width) found → based ≡ map (based_at z) found →

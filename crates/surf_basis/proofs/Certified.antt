@@ -1,6 +1,6 @@
 -- The parts of the certificate of the basis.
-use Rattle.surf_search.proofs.Common.{◌≡◌, ℕ, ◌+◌, ◌<◌, ◌++◌, ◌∷◌, [], List, map, refl, sym, ap, ◌∙◌, subst, Mesh, ends, IsSurface, ArePositive, Trees, AreChosenAt, Loop, walks, choice_exists, heaviest_exists, some_vertex, shortest_is_tree, cotree_of}
-use Rattle.surf_basis.proofs.Common.{rows_for, dual_rows_of, chosen_cert, basis_cert_of, TreeTables, tree_of, LoopTables, trees_of, IsGreedy, listed_more, cert_shown, AreTreeRowsBelow, AreTreeRows, IsTheCert, IsTheBasis}
+use Rattle.surf_basis.proofs.Common.{rows_for, dual_rows_of, chosen_cert, basis_cert_of, TreeTables, tree_of, LoopTables, trees_of, IsGreedy, listed_more, cert_shown, AreTreeRowsBelow, AreTreeRows, IsTheCert, IsTheBasis, ◌≡◌, ℕ, ◌+◌, ◌<◌, ◌++◌, ◌∷◌, [], List, map, refl, sym, ap, ◌∙◌, subst, Mesh, ends, IsSurface, ArePositive, AreChosenAt, walks, choice_exists, heaviest_exists, some_vertex, shortest_is_tree, cotree_of}
+use Rattle.surf_search.proofs.Common.{Trees, Loop}
 use Rattle.surf_validity.specs.Rows.{TreeRows, DualRows, LoopCert, BasisCert}
 use Rattle.surf_validity.specs.Bases.{IsValidBasis}
 use Rattle.surf_validity.proofs.OneCert.{chosen_certs_are_one}

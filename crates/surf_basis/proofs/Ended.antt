@@ -1,7 +1,5 @@
 -- Vertices that are marked: the bases of candidates, and ends of edges with signatures.
-use Rattle.surf_search.proofs.Common.{◌≡◌, ◌≢◌, ℕ, ◌<◌, Bool, true, false, List, length, get_or, slice_index, Contains, All, IsPermutation, sym, ap, ◌∙◌, subst, arith, inl, inr, ◌⊎◌, refl, slice_index_or, IsTrue, get_or_default, Contains-get_or, Mesh, edge_count, ends, IsSurface, Contains-permutation, IsPermutation-sym, AreBases, AreDegreesTo, degree_in, ends_in, CotreeTables, Signed, AreMarkedIn, by_degree, is_signed, is_marked}
-use Rattle.surf_basis.proofs.Common.{HasMarkedEnd, HasSignedEnds, IsBusierEnd, HasBases}
-use Rattle.surf_search.proofs.Marked.{ends_inside}
+use Rattle.surf_basis.proofs.Common.{HasMarkedEnd, HasSignedEnds, IsBusierEnd, HasBases, ◌≡◌, ◌≢◌, ℕ, ◌<◌, Bool, true, false, List, length, get_or, slice_index, Contains, All, IsPermutation, sym, ap, ◌∙◌, subst, arith, inl, inr, ◌⊎◌, refl, slice_index_or, IsTrue, get_or_default, Contains-get_or, Mesh, edge_count, ends, IsSurface, Contains-permutation, IsPermutation-sym, AreBases, AreDegreesTo, degree_in, ends_in, CotreeTables, Signed, AreMarkedIn, by_degree, is_signed, is_marked, ends_inside}
 
 -- where what is marked stays so, so does an end of an edge
 pub end_stays : (mesh : Mesh) (old new : List Bool) (e : ℕ) →

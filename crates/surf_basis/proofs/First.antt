@@ -1,6 +1,6 @@
 -- The first candidate, base by base.
-use Rattle.surf_search.proofs.Common.{◌≡◌, ℕ, ◌<◌, ◌+◌, ◌↔◌, List, [], ◌∷◌, length, map, Option, Some, None, refl, sym, ap, ◌∙◌, subst, arith, inl, inr, AllByRecursion, option_map, IfSome, cases_lt, Mesh, face_count, edge_count, IsSurface, ArePositive, IsLoopCount, Trees, AreChosen, Loop, loops_at, candidates, some_vertex, choice_exists, first_is_shortest, candidates_below_two, simple_cycles_separate, IsLoopAt, loops_are_least, IsLoopBelow, below_each, Candidate}
-use Rattle.surf_basis.proofs.Common.{LoopTables, IsGreedy, LoopHead, Cycle, candidate_of, first_head, loop_in, IsInside, IsCycleOf, first_of, as_loop, IsFirstCandidate, IsShortestCycle, AllSeparate}
+use Rattle.surf_basis.proofs.Common.{LoopTables, IsGreedy, LoopHead, Cycle, candidate_of, first_head, loop_in, IsInside, IsCycleOf, first_of, as_loop, IsFirstCandidate, IsShortestCycle, AllSeparate, ◌≡◌, ℕ, ◌<◌, ◌+◌, ◌↔◌, List, [], ◌∷◌, length, map, Option, Some, None, refl, sym, ap, ◌∙◌, subst, arith, inl, inr, AllByRecursion, option_map, IfSome, cases_lt, Mesh, face_count, edge_count, IsSurface, ArePositive, IsLoopCount, loops_at, some_vertex, choice_exists, first_is_shortest, candidates_below_two, simple_cycles_separate, IsLoopAt, loops_are_least, IsLoopBelow, below_each, Candidate}
+use Rattle.surf_search.proofs.Common.{Trees, AreChosen, Loop, candidates}
 use Rattle.surf_loops.specs.Loops.{loop_of as head_loop}
 use Rattle.surf_basis.proofs.Looped.{heads_chosen, each_head, head_in, none_on_sphere}
 

@@ -1,6 +1,6 @@
 -- What is kept base by base is the basis that is chosen.
-use Rattle.surf_search.proofs.Common.{◌≡◌, ℕ, zero, suc, ◌<◌, ◌≤◌, ◌-◌, Bool, true, false, cond, List, [], ◌∷◌, ◌++◌, ◌+◌, length, filter, All, refl, sym, ap, ◌∙◌, subst, arith, inl, inr, slice_index, AllByRecursion, cases_lt, recursion_from_All, numbers, is_nothing, order_from_sorted, Decides-is_nothing, Split, IsSplit, Mesh, IsSurface, ArePositive, cells_of, class_of, Trees, AreChosen, Loop, comes_before, loops_at, candidates, IsChosenBasis, greedy, greedy_after, spans, two_step_law, AreBases, merge_from, all_each, greedy_is_choice, below_closed, IsLoopAt, comes_before-trans, loops_each, Signed, signed_earlier, independent_of, all_merged, all_kept, AreWalksOf, HavePlacesOfBasis, lengths_at, has_length}
-use Rattle.surf_basis.proofs.Common.{greedy_filtered, Cycle, IsOffered, loop_in, loops_in, IsSigned, IsCycleOf, AreCyclesOf, cycles_with, as_loop, as_loops, placed_below, AreKept, HasBases}
+use Rattle.surf_basis.proofs.Common.{greedy_filtered, Cycle, IsOffered, loop_in, loops_in, IsSigned, IsCycleOf, AreCyclesOf, cycles_with, as_loop, as_loops, placed_below, AreKept, HasBases, ◌≡◌, ℕ, zero, suc, ◌<◌, ◌≤◌, ◌-◌, Bool, true, false, cond, List, [], ◌∷◌, ◌++◌, ◌+◌, length, filter, All, refl, sym, ap, ◌∙◌, subst, arith, inl, inr, slice_index, AllByRecursion, cases_lt, recursion_from_All, numbers, is_nothing, order_from_sorted, Decides-is_nothing, Split, IsSplit, Mesh, IsSurface, ArePositive, cells_of, class_of, comes_before, loops_at, IsChosenBasis, greedy, greedy_after, spans, two_step_law, AreBases, all_each, greedy_is_choice, below_closed, IsLoopAt, comes_before-trans, loops_each, Signed, signed_earlier, independent_of, all_merged, all_kept, AreWalksOf, HavePlacesOfBasis, lengths_at, has_length}
+use Rattle.surf_search.proofs.Common.{Trees, AreChosen, Loop, candidates, merge_from}
 use Rattle.surf_z2.specs.Order.{merge}
 use Rattle.surf_basis.proofs.Places.{is_placed_loop, no_lengths, placed_more, placed_past, placed-sorted}
 

@@ -1,6 +1,5 @@
 -- The first cycle of a basis that is chosen is the first candidate.
-use Rattle.surf_search.proofs.Common.{◌≡◌, ℕ, Bool, true, false, List, [], ◌∷◌, Some, refl, sym, ap, ◌∙◌, subst, arith, option_map, chosen, xor-false, Mesh, IsSurface, parity, ArePositive, IsBoundary, IsNull, total_parity, MatchBool, slice_index_or, first_is_shortest}
-use Rattle.surf_basis.proofs.Common.{Cycle, first_of, as_loop, as_loops, IsTheBasis, IsFirstCandidate}
+use Rattle.surf_basis.proofs.Common.{Cycle, first_of, as_loop, as_loops, IsTheBasis, IsFirstCandidate, ◌≡◌, ℕ, Bool, true, false, List, [], ◌∷◌, Some, refl, sym, ap, ◌∙◌, subst, arith, option_map, chosen, xor-false, Mesh, IsSurface, parity, ArePositive, IsBoundary, IsNull, total_parity, MatchBool, slice_index_or, first_is_shortest}
 use Rattle.surf_surfaces.specs.Choice.{Trees, AreChosen, Loop, candidates, DependsOn, DependsAt, IsGreedyChoice}
 use Rattle.surf_surfaces.proofs.walks.CycleLaws.{null_cycles_separate}
 

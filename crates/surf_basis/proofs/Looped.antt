@@ -1,6 +1,6 @@
 -- The loops of a desk at a base, as loops of the choice.
-use Rattle.surf_search.proofs.Common.{◌≡◌, ℕ, ◌<◌, ◌+◌, true, List, [], ◌∷◌, length, map, Contains, refl, sym, ap, ◌∙◌, subst, arith, AllByRecursion, length-map, get_or-map, All-from_recursion, All-contains, Contains-permutation, Mesh, edge_count, face_count, IsSurface, ArePositive, IsLoopCount, loop_walk, Trees, AreChosenAt, AreChosen, Loop, comes_before, loop_at, loops_at, candidates, IsGreedyChoice, IsChosenBasis, sorted-permutes, is_left, left_edges, IsLoopAt, loops_each, candidates_below_two}
-use Rattle.surf_basis.proofs.Common.{LoopTables, trees_of, loop_of, IsGreedy, LoopHead, candidate_of, loop_in}
+use Rattle.surf_basis.proofs.Common.{LoopTables, trees_of, loop_of, IsGreedy, LoopHead, candidate_of, loop_in, ◌≡◌, ℕ, ◌<◌, ◌+◌, true, List, [], ◌∷◌, length, map, Contains, refl, sym, ap, ◌∙◌, subst, arith, AllByRecursion, length-map, get_or-map, All-from_recursion, All-contains, Contains-permutation, Mesh, edge_count, face_count, IsSurface, ArePositive, IsLoopCount, loop_walk, AreChosenAt, comes_before, loop_at, loops_at, IsChosenBasis, sorted-permutes, is_left, left_edges, IsLoopAt, loops_each, candidates_below_two}
+use Rattle.surf_search.proofs.Common.{Trees, AreChosen, Loop, candidates, IsGreedyChoice}
 use Rattle.surf_surfaces.proofs.classes.CotreeLaws.{passing_found}
 use Rattle.surf_surfaces.proofs.bases.LoopsOne.{loops_are_one}
 

@@ -1,5 +1,5 @@
 -- Two lists in order, merged, and those of them that pass a test.
-use Rattle.surf_surfaces.proofs.Common.{◌≡◌, Bool, true, false, List, [], ◌∷◌, filter, refl, sym, ap, ◌∙◌, inl, inr, AllByRecursion, cases_Bool, all_filtered}
+use Rattle.surf_basis.proofs.Common.{◌≡◌, Bool, true, false, List, [], ◌∷◌, filter, refl, sym, ap, ◌∙◌, inl, inr, AllByRecursion, cases_Bool, all_filtered}
 use Rattle.surf_z2.specs.Order.{merge_from, merge}
 use Rattle.surf_z2.proofs.Merge.{Sorted, merge_head}
 

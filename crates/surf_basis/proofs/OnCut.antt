@@ -1,11 +1,7 @@
 -- Vertices that are marked on the ways up a tree, and the list of them.
-use Rattle.surf_search.proofs.Common.{◌≡◌, ◌≢◌, ℕ, ◌<◌, ◌≤◌, ◌+◌, ◌⊎◌, not, Bool, true, false, List, length, get_or, set, slice_index, Contains, refl, sym, ap, ◌∙◌, subst, arith, inl, inr, Option, Some, None, IsTrue, Tree, Mesh, edge_count, ends, cases_lt, cases_eq, and_parts, and_from, not-true, not_from_false, false≢true, get_or_default, get_or_past, get_or-set_other, tree_edges, cotree_edges, is_left, left_edges, cotree_of, is_among, is_marked}
-use Rattle.surf_basis.proofs.Common.{TreeTables, tree_of, parent_of, LoopTables, IsRooted, IsGreedy, IsClosedUpward, HasVertex, HasEnds, IsPartOf, IsLeastSet, AreCutVertices, IsDividedBy}
+use Rattle.surf_basis.proofs.Common.{TreeTables, tree_of, parent_of, LoopTables, IsRooted, IsGreedy, IsClosedUpward, HasVertex, HasEnds, IsPartOf, IsLeastSet, AreCutVertices, IsDividedBy, ◌≡◌, ◌≢◌, ℕ, ◌<◌, ◌≤◌, ◌+◌, ◌⊎◌, not, Bool, true, false, List, length, get_or, set, slice_index, Contains, refl, sym, ap, ◌∙◌, subst, arith, inl, inr, Option, Some, None, IsTrue, Tree, Mesh, edge_count, ends, cases_lt, cases_eq, and_parts, and_from, not-true, not_from_false, false≢true, get_or_default, get_or_past, get_or-set_other, tree_edges, cotree_edges, is_left, left_edges, cotree_of, is_among, is_marked, set_stays, set_there, among_marked, among_contained}
 use Rattle.surf_opening.specs.OffTheCut.{HasMarkedEnds}
 use Rattle.surf_cotree.specs.Grown.{IsMarked}
-use Rattle.surf_search.proofs.Marked.{set_stays, set_there}
-use Rattle.surf_search.proofs.PassedOver.{among_marked}
-use Rattle.surf_search.proofs.Searched.{among_contained}
 
 -- ---- one way
 

@@ -1,6 +1,6 @@
 -- Loops that have the length and the base of one of some candidates.
-use Rattle.surf_search.proofs.Common.{◌≡◌, ℕ, zero, suc, ◌+◌, ◌<◌, ◌≤◌, Bool, true, false, eqb, eqb-true, cond, List, [], ◌∷◌, ◌++◌, length, map, filter, take, get_or, Contains, refl, sym, ap, ◌∙◌, arith, slice_index, false_from_ne_true, map-append, get_or_default, merge, Sorted, Mesh, loop_length, Trees, Loop, comes_before, loops_at, loops_below, place_of_loop, filter_more, recursion_from_All, below-sorted, below_more, all_each, IsLoopAt, comes_before-trans, loops-sorted, loops_each, Signed, lengths_at, has_length, is_placed}
-use Rattle.surf_basis.proofs.Common.{filter_none, filter_merge_out, sorted_filtered, placed_below, HasBases}
+use Rattle.surf_basis.proofs.Common.{filter_none, filter_merge_out, sorted_filtered, placed_below, HasBases, ◌≡◌, ℕ, zero, suc, ◌+◌, ◌<◌, ◌≤◌, Bool, true, false, eqb, eqb-true, cond, List, [], ◌∷◌, ◌++◌, length, map, filter, take, get_or, Contains, refl, sym, ap, ◌∙◌, arith, slice_index, false_from_ne_true, map-append, get_or_default, Mesh, loop_length, comes_before, loops_at, loops_below, place_of_loop, filter_more, recursion_from_All, below-sorted, below_more, all_each, IsLoopAt, comes_before-trans, loops-sorted, loops_each, Signed, lengths_at, has_length, is_placed}
+use Rattle.surf_search.proofs.Common.{merge, Sorted, Trees, Loop}
 use Rattle.surf_basis.proofs.Merged.{filter_merged}
 
 -- one more candidate

@@ -1,6 +1,6 @@
 -- What is known when all bases were gone through.
-use Rattle.surf_search.proofs.Common.{◌≡◌, ℕ, ◌<◌, List, [], length, get_or, map, All, refl, sym, ap, ◌∙◌, subst, arith, range_with_len, IsSplit, Tree, Mesh, edge_count, ends, IsSurface, ArePositive, cells_of, IsLoopCount, loop_length, IsShortestTree, Loop, IsChosenBasis, edge_signature, LeastSimpleBasis, basis_is_least, choice_exists, shortest_trees_are_one, ends_in, CotreeTables, split_with, Signed, IsMeasured, HavePlacesOfBasis, AreSigned}
-use Rattle.surf_basis.proofs.Common.{LoopTables, IsGreedy, Cycle, AreCyclesOf, AreKeptOver, HasBases, as_loops, IsTheBasis}
+use Rattle.surf_basis.proofs.Common.{LoopTables, IsGreedy, Cycle, AreCyclesOf, AreKeptOver, HasBases, as_loops, IsTheBasis, ◌≡◌, ℕ, ◌<◌, List, [], length, get_or, map, All, refl, sym, ap, ◌∙◌, subst, arith, range_with_len, IsSplit, Tree, Mesh, edge_count, ends, IsSurface, ArePositive, cells_of, IsLoopCount, loop_length, IsShortestTree, IsChosenBasis, edge_signature, LeastSimpleBasis, basis_is_least, choice_exists, shortest_trees_are_one, ends_in, CotreeTables, split_with, Signed, IsMeasured, HavePlacesOfBasis, AreSigned}
+use Rattle.surf_search.proofs.Common.{Loop}
 use Rattle.surf_basis.proofs.Looped.{empty_basis}
 use Rattle.surf_basis.proofs.Kept.{cycles_basis}
 

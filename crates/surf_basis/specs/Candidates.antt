@@ -1,5 +1,5 @@
 -- Candidates for a basis as loops by trees of shortest walks, and their cycles.
-use Rattle.std.specs.Prelude.{ℕ, ◌≡◌, ◌<◌, IsTrue, List, [], ◌∷◌, map, Option, length, Some, None}
+use Rattle.std.specs.Prelude.{ℕ, ◌≡◌, ◌<◌, IsTrue, List, [], ◌∷◌, map, Option, Some, None}
 use Rattle.std.specs.List.{zip}
 use Rattle.std.specs.Option.{option_map}
 use Rattle.surf_graphs.specs.Cells.{Split}

@@ -4,7 +4,7 @@ use Rattle.surf_graphs.specs.Trees.{Tree}
 use Rattle.surf_surfaces.specs.Mesh.{Mesh}
 use Rattle.surf_opening.specs.OffTheCut.{HasMarkedEnds, AreMarked}
 use Rattle.surf_tree.specs.Tables.{tree_of}
-use Rattle.surf_tree.specs.Queues.{AreEven, AreUneven}
+use Rattle.surf_tree.specs.Queues.{AreEven}
 use Rattle.surf_cotree.specs.Tables.{cotree_of}
 use Rattle.surf_loops.specs.Loops.{LoopTables, IsRooted}
 use Rattle.surf_search.specs.Found.{is_among}
@@ -41,10 +41,10 @@ pub record AreCutVertices (mesh : Mesh) (t : LoopTables) (list : List ℕ) : Typ
   pub least : (other : ℕ → Bool) → AreMarked mesh (tree_of t.tree) (cotree_of t.cotree) other →
       All (λ v. IsTrue (other v)) list
 
--- where all lengths are the same the list has ends of edges with signatures, else the vertices of the cut
+-- the list has the vertices of the cut, or, where all lengths are the same, ends of edges with signatures
 abbrev pub AreToSearch : Mesh → List ℕ → LoopTables → List ℕ → Type 0
-AreToSearch mesh lengths t list = ((size : ℕ) × AreEven lengths size × AreSignedEnds mesh t.cotree list)
-    ⊎ (AreUneven lengths × AreCutVertices mesh t list)
+AreToSearch mesh lengths t list = AreCutVertices mesh t list
+    ⊎ ((size : ℕ) × AreEven lengths size × AreSignedEnds mesh t.cotree list)
 
 -- of the tables of a desk: a spanning tree of the vertices, in which each but the base has a parent, a tree of the faces,
 -- and the edges in neither

@@ -8,7 +8,7 @@ ghost use Rattle.surf_search.specs.Signing.{AreSigned};
 
 use surf_base::{EdgeId, NoMemory, VertexId};
 use surf_choice::{Candidate, Choice, Signed, copy_of};
-use surf_search::{Finder, keep_loops};
+use surf_search::{Finder, Ties, keep_loops};
 
 // The greatest of some lengths, and 0 where there is none.
 fn greatest_of(lengths: &[u64]) -> u64
@@ -79,7 +79,7 @@ pub(crate) fn loops_at(
         base: VertexId::new(u32::MAX),
         edge: EdgeId::new(0),
     };
-    finder.find(base, &Some(last), loops)?;
+    finder.find(base, &Some(last), Ties::LesserEdge, loops)?;
     list_based(loops, base, based)?;
     least.clear();
     keep_loops(based, least)?;

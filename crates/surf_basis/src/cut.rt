@@ -74,10 +74,10 @@ fn cut_vertices(alloc: Global, mesh: &HalfMesh, desk: &LoopDesk) -> Result<Vec<V
     Ok(list)
 }
 
-/// Vertices of which every closed walk meets one that isn't null, in an order that scatters them.
-/// Where lengths differ these are the vertices of a cut: they lie along shortest ways and close
-/// together, so that searches pass over many of them. Where all lengths are the same nothing is
-/// passed over, and the ends of edges with signatures are fewer.
+/// Vertices of which every closed walk that isn't null meets one, in an order that scatters them.
+/// These are the vertices of a cut: they lie along shortest ways and close together, so that
+/// searches pass over many of them. Where all lengths are the same less is passed over, and the ends
+/// of edges with signatures are taken if they are fewer.
 pub(crate) fn searched_vertices(
     alloc: Global,
     mesh: &HalfMesh,
@@ -92,8 +92,13 @@ pub(crate) fn searched_vertices(
     ensures scattered { IfOk result (λ list. IsNonDecreasingBy bits_backwards list.items) }
 {
     mesh.law_of_surface();
-    if even_length(lengths).is_some() {
-        return signed_ends(alloc, mesh, desk.cotree());
+    let cut = cut_vertices(alloc, mesh, desk)?;
+    if even_length(lengths).is_none() {
+        return Ok(cut);
     }
-    cut_vertices(alloc, mesh, desk)
+    let ends = signed_ends(alloc, mesh, desk.cotree())?;
+    if ends.len() < cut.len() {
+        return Ok(ends);
+    }
+    Ok(cut)
 }

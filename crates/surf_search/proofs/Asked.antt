@@ -1,5 +1,5 @@
 -- Caps as great as edges ask for meet all closed walks, so what is kept has the places of the basis.
-use Rattle.surf_search.proofs.Common.{◌≡◌, ℕ, zero, suc, ◌<◌, ◌≤◌, ◌^◌, ◌==◌, ◌&&◌, true, eqb-true, List, [], ◌∷◌, length, get_or, map, take, All, Contains, Option, Some, None, refl, sym, ap, ◌∙◌, subst, arith, inl, inr, IsTrue, nat_le, slice_index, min, cases_Bool, cases_lt, leb-true, le-leb, or_cases, or_left, or_right, and_from, and_parts, false≢true, nat_tests, numbers, Independent, Spanned, sorted_from_order, Split, IsSplit, signature, Tree, Mesh, edge_count, ends, IsSurface, IsClosed, ArePositive, IsIndependent, IsLoopCount, cells_of, class_of, AreShortestTrees, edge_signature, Trees, AreChosen, Loop, IsChosenBasis, length-map, take-map, get_or-map, recursion_from_All, All-from_recursion, All-contains, small, Place, place_at, is_no_later, Found, HasFound, IsWithin, walks_found, comes_no_later, place_of_loop, MeetsAll, independent_by_classes, all_mapped, Sought, AreSized, AreEnoughFor, HaveAskedEnds, MeetsUpTo, asks, both, either, everywhere, limited, caps_grow_enough, both_start, limited_start, found_are_walks, CotreeTables, Candidate, Signed, Chosen, signatures, place_of, is_sought, last_of, limit_of, stands_before, before_last, limit_none, limit_last, is_among, is_within_cap, cap_at, in_caps, AreKeptTo, IsAsked, HasCappedEnd, AreCapped, AreSigned, AreSignatures}
+use Rattle.surf_search.proofs.Common.{◌≡◌, ℕ, zero, suc, ◌<◌, ◌≤◌, ◌^◌, ◌&&◌, true, List, [], ◌∷◌, length, get_or, map, take, All, Option, Some, None, refl, sym, ap, ◌∙◌, subst, arith, inl, inr, IsTrue, nat_le, slice_index, min, cases_Bool, cases_lt, leb-true, le-leb, or_cases, or_left, or_right, and_from, and_parts, false≢true, nat_tests, numbers, Independent, Spanned, sorted_from_order, Split, IsSplit, signature, Tree, Mesh, edge_count, ends, IsSurface, IsClosed, ArePositive, IsIndependent, IsLoopCount, cells_of, class_of, AreShortestTrees, edge_signature, Trees, AreChosen, Loop, IsChosenBasis, length-map, take-map, get_or-map, recursion_from_All, All-from_recursion, All-contains, small, Place, place_at, is_no_later, Found, HasFound, IsWithin, walks_found, place_of_loop, MeetsAll, independent_by_classes, all_mapped, Sought, AreSized, AreEnoughFor, HaveAskedEnds, MeetsUpTo, asks, both, either, everywhere, limited, caps_grow_enough, both_start, limited_start, found_are_walks, CotreeTables, Candidate, Signed, Chosen, signatures, place_of, is_sought, last_of, limit_of, stands_before, before_last, limit_none, limit_last, is_among, is_within_cap, cap_at, in_caps, AreKeptTo, IsAsked, HasCappedEnd, AreCapped, AreSigned, AreSignatures}
 use Rattle.surf_caps.specs.Heights.{AreHeights}
 use Rattle.surf_caps.proofs.Covers.{enough_everywhere}
 use Rattle.surf_caps.proofs.Heights.{asked_ends_meet}
@@ -7,6 +7,7 @@ use Rattle.surf_caps.proofs.Images.{everywhere_meets, meets_fewer, sets_meet}
 use Rattle.surf_caps.proofs.Places.{enough_have_places, full_count_has_places}
 use Rattle.surf_search.proofs.Capped.{within_start, limit_start}
 use Rattle.surf_search.proofs.Climbed.{at_edge}
+use Rattle.surf_search.proofs.Searched.{among_contains}
 use Rattle.surf_search.proofs.Looped.{tells_sizes, tells_walks, tells_long, tells_at, tells_order, signed_of}
 
 -- the signature of an edge is as small as there are left edges
@@ -29,15 +30,6 @@ within_by_size cap size base le = or_left (nat_le size cap) (nat_le 184467440737
 -- what is within a cap is within a greater one
 pub within_more : (cap more : ℕ) (p : Place) → cap ≤ more → is_within_cap cap p ≡ true → is_within_cap more p ≡ true
 within_more cap more p le h = grind (arith, nat_tests)
-
--- ---- places
-
-among_contains : (vs : List ℕ) (v : ℕ) → is_among vs v ≡ true → Contains vs v
-among_contains [] v h = absurd (false≢true h)
-among_contains (x ∷ xs) v h = elim (or_cases (x == v) (is_among xs v) h) [
-  | inl here ↦ (0, omega arith, eqb-true x v here)
-  | inr after ↦ let (k, l, e) = among_contains xs v after in (suc k, omega (arith, l), e)
-]
 
 -- ---- heights by what edges ask
 

@@ -1,5 +1,5 @@
 -- Lengths that differ from others at edges with a marked end alone, while more vertices are marked.
-use Rattle.surf_search.proofs.Common.{◌≡◌, ℕ, ◌<◌, ◌≤◌, Bool, true, false, List, length, refl, ap, arith, touches, edge_length, edge_count, sym, ◌∙◌, subst, inl, inr, IsTrue, cases_Bool, false≢true, Mesh, ends, ArePositive, AgreeOff, Link, AreLinks, IsShutAt, KeepsOff, SurfaceTables, is_marked, AreNoShorter, IsAhead, IsBarring}
+use Rattle.surf_search.proofs.Common.{◌≡◌, ℕ, ◌<◌, ◌≤◌, Bool, false, List, length, refl, ap, arith, touches, edge_length, edge_count, sym, ◌∙◌, subst, inl, inr, IsTrue, cases_Bool, false≢true, Mesh, ends, AgreeOff, Link, AreLinks, IsShutAt, KeepsOff, SurfaceTables, is_marked, AreNoShorter, IsAhead, IsBarring}
 
 -- what isn't in a set isn't in a lesser one
 off_less : (s t : ℕ → Bool) → ((v : ℕ) → IsTrue (s v) → IsTrue (t v)) → (v : ℕ) → t v ≡ false → s v ≡ false

@@ -1,8 +1,8 @@
 -- What is kept of the loops at vertices that are searched as far as their caps, search by search.
-use Rattle.surf_search.proofs.Common.{◌≡◌, ℕ, suc, ◌<◌, ◌≤◌, ◌≢◌, ◌+◌, ◌-◌, ◌*◌, ◌^◌, Bool, true, false, eqb, leb, leb-true, le-leb, not, List, [], ◌++◌, length, get_or, map, filter, take, All, Contains, IsPermutation, Option, Some, None, refl, sym, ap, ◌∙◌, subst, arith, inl, inr, IsTrue, ◌&&◌, cases_eq, or_cases, or_left, or_right, and_parts, and_from, nat_tests, merge, greedy, numbers, is_nothing, Decides-is_nothing, Independent, Spanned, InSpan, AllInSpan, trans_in, in_from_spanned, spanned_from_in, zero_in, member_in, Split, IsSplit, Tree, Mesh, edge_count, IsSurface, IsClosed, ArePositive, cells_of, class_of, AreShortestTrees, loop_walk, loop_length, Place, place_at, Found, IsFoundLoop, is_within, walks_found, walks_within, DependsOn, DependsAtPlace, comes_no_later, least_base, Contains-permutation, All-permutation, IsPermutation-sym, cases_lt, false≢true, All-take, take_more, IsNonDecreasingBy, chosen, Sorted, sorted_from_order, order_from_sorted, sorted_greedy, greedy_law, same_members, IsInOrder, recursion_from_All, All-from_recursion, AllByRecursion, All-append, All-contains, Contains-append_left, Contains-append_right, Contains-get_or, get_or-take, length-take-le, map-map, get_or_default, all_filtered, IsNull, IsFoundAt, is_no_later, place_of_found, ◌∷◌, ◌||◌, ◌⊎◌, Contains-append_cases, loop_closed, no_later-same, null_by_class, greedy_is_found_choice, depends_from_spanned, all_mapped, AgreeOff, is_shorter_by, IsSoughtFromStart, DependOnShorterOr, with_near_places, Sought, AreSoughtFromStart, AreEnoughFor, CapsGrow, IsFoundBy, with_places, everywhere, limited, both, up_to_length, ChoiceKeeps, caps_grow_enough, both_start, limited_start, found_are_walks, Candidate, Signed, Chosen, signed_earlier, independent_of, signatures, IsLonger, IsSumOfLength, place_of, is_sought, limit_of, order_of, stands_before, merged_sorted, limit_falls, shorter_first, IsFound, AreFoundBy, found_of, AreNoShorter, spare_of, is_within_cap, IsCapped, IsWider, AreKeptTo, AreLongerOr, told_of, told_by}
+use Rattle.surf_search.proofs.Common.{◌≡◌, ℕ, suc, ◌<◌, ◌≤◌, ◌≢◌, ◌+◌, ◌-◌, ◌*◌, Bool, true, false, eqb, leb, le-leb, not, List, [], ◌++◌, length, get_or, map, filter, take, All, Contains, IsPermutation, Option, Some, None, refl, sym, ap, ◌∙◌, subst, arith, inl, inr, IsTrue, ◌&&◌, cases_eq, or_cases, or_left, or_right, and_parts, and_from, nat_tests, merge, greedy, numbers, is_nothing, Decides-is_nothing, Independent, Spanned, InSpan, trans_in, in_from_spanned, spanned_from_in, zero_in, member_in, Split, IsSplit, Tree, Mesh, edge_count, IsSurface, IsClosed, ArePositive, cells_of, class_of, AreShortestTrees, loop_walk, loop_length, Place, place_at, Found, is_within, walks_found, DependsOn, DependsAtPlace, least_base, Contains-permutation, All-permutation, IsPermutation-sym, cases_lt, false≢true, take_more, IsNonDecreasingBy, chosen, Sorted, sorted_from_order, order_from_sorted, sorted_greedy, greedy_law, same_members, IsInOrder, recursion_from_All, All-from_recursion, All-append, All-contains, Contains-append_left, Contains-append_right, Contains-get_or, get_or-take, length-take-le, map-map, get_or_default, all_filtered, IsNull, IsFoundAt, is_no_later, place_of_found, ◌∷◌, ◌||◌, ◌⊎◌, Contains-append_cases, loop_closed, no_later-same, null_by_class, greedy_is_found_choice, depends_from_spanned, all_mapped, AgreeOff, is_shorter_by, IsSoughtFromStart, DependOnShorterOr, with_near_places, Sought, AreSoughtFromStart, AreEnoughFor, CapsGrow, IsFoundBy, with_places, everywhere, limited, both, up_to_length, ChoiceKeeps, caps_grow_enough, both_start, limited_start, found_are_walks, Candidate, Signed, Chosen, signed_earlier, independent_of, signatures, IsSumOfLength, place_of, is_sought, limit_of, order_of, stands_before, merged_sorted, limit_falls, shorter_first, IsFound, AreFoundBy, found_of, AreNoShorter, spare_of, is_within_cap, IsCapped, IsWider, AreKeptTo, AreLongerOr, told_of, told_by}
 use Rattle.surf_caps.proofs.Barring.{barred_searches_suffice, near_places_need_no_more}
 use Rattle.surf_caps.proofs.Over.{within, depends_within}
-use Rattle.surf_search.proofs.Looped.{tells_classes, tells_long, tells_at, tells_order, tells_chosen, turned, founds_told, signed_of}
+use Rattle.surf_search.proofs.Looped.{tells_long, tells_at, tells_order, tells_chosen, turned, founds_told, signed_of}
 use Rattle.surf_search.proofs.PassedOver.{no_longer, shorter_sooner, all_signed}
 use Rattle.surf_search.proofs.Searched.{loops_found, places_found, no_fewer, of_choice, zero_null, depends_null}
 
@@ -20,44 +20,50 @@ limit_start (Some c) p q h k = grind (arith, nat_tests)
 
 -- ---- the first of what a search found
 
--- of loops in order, those up to the last that comes before a limit are all that come before it
-pub found_sooner : (mesh : Mesh) (lengths : List ℕ) (trees : ℕ → Tree) (d : Split) (limit wide : Option Candidate) (z n : ℕ)
-    (found list : List Signed) → AreFoundBy mesh lengths trees d wide z found → IsPermutation found list →
-    Sorted stands_before list → IsWider limit wide → n ≤ length list →
-    ((s : Signed) → 0 < n → IsTrue (is_sought limit (place_of (get_or list (n - 1) s).candidate))) →
-    ((k : ℕ) (s : Signed) → n ≤ k → k < length list → is_sought limit (place_of (get_or list k s).candidate) ≡ false) →
-    AreFoundBy mesh lengths trees d limit z (take n list)
-found_sooner mesh lengths trees d limit wide z n found list h same sorted wider n_in last late = record {
-  each = All-take (IsFound mesh lengths trees d) n list (All-permutation (IsFound mesh lengths trees d) found list same h.each);
-  here = All-take (λ c. c.from ≡ z) n list (All-permutation (λ c. c.from ≡ z) found list same h.here);
-  sooner = λ i s l.
-      (let long = length-take-le n list n_in in
-      let i_n : i < n = omega (arith, l, long) in
-      subst (λ (x : Signed). IsTrue (is_sought limit (place_of x.candidate))) (sym (get_or-take n list i s i_n))
-      (elim (cases_lt i (n - 1)) [
-        | inl less ↦ limit_start limit (place_of (get_or list i s).candidate) (place_of (get_or list (n - 1) s).candidate)
-            (order_from_sorted stands_before list sorted i (n - 1) s less (omega (arith, i_n, n_in))) (last s (omega (arith, i_n)))
-        | inr more ↦
-            let is : n - 1 ≡ i = omega (arith, i_n, more) in
-            subst (λ k. IsTrue (is_sought limit (place_of (get_or list k s).candidate))) is (last s (omega (arith, i_n)))
-      ]));
-  some = All-take (λ c. c.signature ≢ 0) n list (All-permutation (λ c. c.signature ≢ 0) found list same h.some);
+-- those of a wider search that come before a limit
+pub found_among : (mesh : Mesh) (lengths : List ℕ) (trees : ℕ → Tree) (d : Split) (limit wide : Option Candidate) (z : ℕ)
+    (found list : List Signed) → AreFoundBy mesh lengths trees d wide z found → ((P : Signed → Type 0) → All P found → All P list) →
+    All (λ c. IsTrue (is_sought limit (place_of c.candidate))) list →
+    ((c : Signed) → Contains found c → IsTrue (is_sought limit (place_of c.candidate)) → Contains list c) → IsWider limit wide →
+    AreFoundBy mesh lengths trees d limit z list
+found_among mesh lengths trees d limit wide z found list h within sooner has_all wider = record {
+  each = within (IsFound mesh lengths trees d) h.each;
+  here = within (λ c. c.from ≡ z) h.here;
+  sooner = sooner;
+  some = within (λ c. c.signature ≢ 0) h.some;
   all = λ e e_in some sought.
       (let (c, has, from_is, edge_is) = h.all e e_in some (wider (place_at mesh lengths trees z e) sought) in
       let right : IsFound mesh lengths trees d c = All-contains (IsFound mesh lengths trees d) found c h.each has in
       let place : place_of c.candidate ≡ place_at mesh lengths trees z e =
       (λ t. (right.size t, right.base t))
       ∙ (λ t. place_at mesh lengths trees (from_is t) (edge_is t)) in
-      let (k, k_in, at) = Contains-permutation found list c same has in
-      let k_n : k < n = elim (cases_lt k n) [
-        | inl less ↦ less
-        | inr more ↦ absurd (false≢true (sym (late k c more k_in)
-            ∙ ap (λ (x : Signed). is_sought limit (place_of x.candidate)) (get_or_default list k c c k_in ∙ at)
-            ∙ ap (is_sought limit) place ∙ sought))
-      ] in
-      let long = length-take-le n list n_in in
-      (c, (k, omega (arith, k_n, long), get_or-take n list k c k_n ∙ at), from_is, edge_is));
+      (c, has_all c has (subst (λ p. IsTrue (is_sought limit p)) (sym place) sought), from_is, edge_is));
 }
+
+-- of loops in order, those up to the last that comes before a limit come before it
+pub front_sooner : (limit : Option Candidate) (n : ℕ) (list : List Signed) → Sorted stands_before list → n ≤ length list →
+    ((s : Signed) → 0 < n → IsTrue (is_sought limit (place_of (get_or list (n - 1) s).candidate))) →
+    All (λ c. IsTrue (is_sought limit (place_of c.candidate))) (take n list)
+front_sooner limit n list sorted n_in last i s l =
+    let long = length-take-le n list n_in in
+    let i_n : i < n = omega (arith, l, long) in
+    subst (λ (x : Signed). IsTrue (is_sought limit (place_of x.candidate))) (sym (get_or-take n list i s i_n))
+    (elim (cases_lt i (n - 1)) [
+      | inl less ↦ limit_start limit (place_of (get_or list i s).candidate) (place_of (get_or list (n - 1) s).candidate)
+          (order_from_sorted stands_before list sorted i (n - 1) s less (omega (arith, i_n, n_in))) (last s (omega (arith, i_n)))
+      | inr more ↦
+          let is : n - 1 ≡ i = omega (arith, i_n, more) in
+          subst (λ k. IsTrue (is_sought limit (place_of (get_or list k s).candidate))) is (last s (omega (arith, i_n)))
+    ])
+
+-- and they are all
+pub front_has : (limit : Option Candidate) (n : ℕ) (list : List Signed) → n ≤ length list →
+    ((k : ℕ) (s : Signed) → n ≤ k → k < length list → is_sought limit (place_of (get_or list k s).candidate) ≡ false) →
+    (c : Signed) → Contains list c → IsTrue (is_sought limit (place_of c.candidate)) → Contains (take n list) c
+front_has limit n list n_in late c (k, k_in, at) sought = elim (cases_lt k n) [
+  | inl less ↦ let long = length-take-le n list n_in in (k, omega (arith, less, long), get_or-take n list k c less ∙ at)
+  | inr more ↦ absurd (false≢true (sym (late k c more k_in) ∙ ap (λ (x : Signed). is_sought limit (place_of x.candidate)) at ∙ sought))
+]
 
 -- longer than a length, and within a cap
 abbrev pub is_beyond : ℕ → ℕ → Place → Bool

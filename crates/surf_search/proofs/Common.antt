@@ -30,16 +30,17 @@ pub use Rattle.surf_near.specs.Links.{AreLinks, AreLinksAt, IsShutAt, KeepsOff, 
 pub use Rattle.surf_near.specs.Near.{IsNear, IsNearTo, NearTables, is_near}
 pub use Rattle.surf_near.specs.declared.links.Link.{Link}
 pub use Rattle.surf_search.proofs.FoundLoops.{found_of}
-pub use Rattle.surf_search.specs.Found.{AreFound, AreFoundBy, AreTold, IsFirstAmong, IsFirstAt, IsFirstOf, IsFirstTold}
+pub use Rattle.surf_search.specs.Found.{AreFirstFound, AreFirstTold, CoversAt, HasNoLater, is_first, precedes}
+pub use Rattle.surf_search.specs.Found.{AreFound, AreFoundBy, IsFirstAmong, IsFirstAt, IsFirstOf, IsFirstTold}
 pub use Rattle.surf_search.specs.Found.{IsFound, IsLinkOf, IsNext, IsReady, IsRise, IsTold, IsUnwantedAt, ListsAt}
 pub use Rattle.surf_search.specs.Found.{Search, SurfaceTables, earlier_of, first_from, first_with, is_among}
 pub use Rattle.surf_search.specs.Found.{is_between, is_earlier, is_wanted, may_matter, reached_at, search_of}
-pub use Rattle.surf_search.specs.Found.{surface_of, told_loop, wanted_loop}
+pub use Rattle.surf_search.specs.Found.{surface_of, told_loop}
 pub use Rattle.surf_search.specs.Marks.{AreMarkedIn, bits_backwards, by_degree, is_signed}
 pub use Rattle.surf_search.specs.Passing.{AreMarkedNear, AreNoShorter, AreShut, IsAhead, IsFirstIn, StaysFirst}
 pub use Rattle.surf_search.specs.Passing.{is_marked, spare_of}
 pub use Rattle.surf_search.specs.Places.{AreDistances, HavePlacesOfBasis, has_length, is_placed, lengths_at, radius_of}
-pub use Rattle.surf_search.specs.Rounds.{AreAsks, AreCapped, AreKeptTo, AreKeptUpTo, AreLongerOr, AreNoLess}
+pub use Rattle.surf_search.specs.Rounds.{AreAsks, AreCapped, AreDone, AreFalling, AreKeptTo, AreKeptUpTo, AreLongerOr, AreNoLess}
 pub use Rattle.surf_search.specs.Rounds.{AreRaisedTo, AreRising, HasCappedEnd, IsAsked, IsBarring, IsCapped, IsKeptAt}
 pub use Rattle.surf_search.specs.Rounds.{IsWider, KeepsInRound, cap_at, fall_order, in_caps, in_round, is_within_cap}
 pub use Rattle.surf_search.specs.Rounds.{told_by, told_of}

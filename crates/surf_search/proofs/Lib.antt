@@ -8,6 +8,7 @@ pub mod Counted
 pub mod FirstFound
 pub mod Firsts
 pub mod FoundLoops
+pub mod LeftOut
 pub mod Looped
 pub mod Marked
 pub mod NearFirst

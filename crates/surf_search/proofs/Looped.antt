@@ -1,5 +1,5 @@
 -- The loops of which kept candidates tell.
-use Rattle.surf_search.proofs.Common.{◌≡◌, ℕ, zero, suc, ◌<◌, ◌++◌, Bool, true, List, [], ◌∷◌, length, get_or, map, set, All, Contains, IsPermutation, refl, sym, ap, ◌∙◌, subst, arith, numbers, is_nothing, greedy, IsInOrder, Split, Tree, Mesh, class_of, loop_walk, map-map, map-append, length-map, get_or-map, recursion_from_All, AllByRecursion, Found, walks_found, comes_no_later, map-set, length-append, Signed, independent_of, signatures, stands_before, greedy_mapped, IsFound, found_of, told_of, told_by}
+use Rattle.surf_search.proofs.Common.{◌≡◌, ℕ, zero, suc, ◌<◌, ◌++◌, Bool, List, [], ◌∷◌, length, get_or, map, set, All, IsPermutation, refl, sym, ap, ◌∙◌, subst, arith, numbers, is_nothing, greedy, IsInOrder, Split, Tree, Mesh, class_of, map-map, map-append, length-map, get_or-map, recursion_from_All, AllByRecursion, Found, walks_found, comes_no_later, map-set, Signed, independent_of, signatures, stands_before, greedy_mapped, IsFound, found_of, told_of, told_by}
 use Rattle.std.specs.List.{swap}
 use Rattle.std.specs.List.Sorted.{apply_swaps, SwapsInRange}
 

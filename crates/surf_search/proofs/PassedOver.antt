@@ -1,6 +1,6 @@
 -- Vertices near one that was searched, which are passed over where the loops found there are all longer than those kept,
 -- though the search went by lengths that bar the ways through vertices for which what is kept is enough.
-use Rattle.surf_search.proofs.Common.{◌≡◌, ℕ, suc, ◌<◌, ◌≤◌, ◌+◌, ◌*◌, ◌⊎◌, Bool, true, false, eqb, leb, le-leb, List, [], ◌∷◌, length, get_or, map, filter, take, All, Contains, Option, Some, None, sym, ap, ◌∙◌, subst, arith, inl, inr, set, get_or-set_other, IsTrue, ◌||◌, ◌==◌, replicate, slice_index, AllByRecursion, cases_eq, cases_lt, false≢true, or_cases, or_left, or_right, eq-eqb, eqb-true, nat_tests, get_or-take, get_or_default, get_or_past, get_or-replicate, length-replicate, length-take-le, recursion_from_All, All-contains, Contains-get_or, map-map, IsInOrder, numbers, Spanned, InSpan, AllInSpan, trans_in, in_from_spanned, spanned_from_in, Split, IsSplit, Tree, Mesh, edge_count, IsSurface, IsClosed, ArePositive, cells_of, class_of, AreShortestTrees, loop_walk, loop_length, DependsOn, member_in, all_filtered, Place, is_no_later, comes_sooner, place_at, least_base, Found, walks_found, with_vertex, contains-map, choice_exists, shortest_trees, zero_distance, loop_closed, found_closed, depends_from_spanned, all_mapped, NearTables, IsNear, is_shorter_by, DependOnShorter, with_near, AgreeOff, near_vertices_need_no_more, Candidate, Signed, Chosen, signatures, IsLonger, stands_before, is_sought, limit_of, shorter_first, SurfaceTables, IsFound, AreFound, AreFoundBy, found_of, is_among, is_marked, AreMarkedNear}
+use Rattle.surf_search.proofs.Common.{◌≡◌, ℕ, suc, ◌<◌, ◌≤◌, ◌⊎◌, Bool, true, false, eqb, leb, le-leb, List, [], ◌∷◌, length, All, Contains, Some, sym, ◌∙◌, subst, arith, inl, inr, set, get_or-set_other, IsTrue, ◌||◌, ◌==◌, replicate, slice_index, AllByRecursion, cases_eq, cases_lt, false≢true, or_cases, or_left, or_right, eq-eqb, eqb-true, nat_tests, get_or_default, get_or_past, get_or-replicate, length-replicate, All-contains, numbers, InSpan, AllInSpan, Tree, Mesh, IsSurface, ArePositive, Place, is_no_later, comes_sooner, with_vertex, choice_exists, shortest_trees, zero_distance, NearTables, IsNear, Candidate, Signed, signatures, is_sought, SurfaceTables, is_among, is_marked, AreMarkedNear}
 
 -- ---- places
 

@@ -1,5 +1,5 @@
 -- A loop that was found has its own place.
-use Rattle.surf_search.proofs.Common.{◌≡◌, ℕ, zero, suc, ◌<◌, Bool, true, false, eqb, eq-eqb, cond, List, [], ◌∷◌, length, get_or, map, filter, Contains, refl, sym, ap, ◌∙◌, subst, arith, or_right, Split, Mesh, Found, place_of_found, Contains-get_or, Signed, place_of, lengths_at, has_length, is_placed, told_of, told_by}
+use Rattle.surf_search.proofs.Common.{◌≡◌, zero, suc, ◌<◌, Bool, true, false, eqb, eq-eqb, cond, List, [], ◌∷◌, length, get_or, map, filter, Contains, refl, sym, ap, ◌∙◌, subst, arith, or_right, Split, Mesh, Found, place_of_found, Contains-get_or, Signed, place_of, lengths_at, has_length, is_placed, told_of, told_by}
 use Rattle.surf_search.proofs.Looped.{tells_at, tells_long, signed_of}
 
 -- a candidate has its own place

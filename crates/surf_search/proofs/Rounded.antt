@@ -1,7 +1,5 @@
 -- Rounds: what is kept of their searches, and in the end has the places of the basis.
-use Rattle.surf_search.proofs.Common.{◌≡◌, ℕ, ◌<◌, zero, suc, max, ◌≤◌, ◌≢◌, ◌+◌, ◌-◌, ◌*◌, ◌/◌, ◌%◌, ◌^◌, ◌⊎◌, get_or-set_same, get_or-set_other, ◌∷◌, Bool, true, false, eqb, leb, le-leb, leb-true, not, List, [], length, get_or, set, All, eq-eqb, edge_count, Found, is_no_later, merge, get_or_default, no_member, Contains, Option, refl, sym, ap, ◌∙◌, subst, arith, inl, inr, IsTrue, ◌&&◌, ◌||◌, cases_Bool, cases_eq, cases_lt, or_cases, or_left, or_right, and_parts, and_from, false≢true, eqb-true, Tree, Mesh, IsSurface, ArePositive, IsLoopCount, MeetsAll, AreShortestTrees, Place, replicate, get_or_past, get_or-replicate, length-replicate, choice_exists, least_base_on_way, shortest_trees, AgreeOff, with_near_places, Sought, AreSoughtFromStart, MeetsUpTo, either, everywhere, with_places, either_start, on_set_start, Candidate, Signed, Chosen, signed_earlier, independent_of, limit_of, is_sought, SurfaceTables, AreFound, is_among, bits_backwards, is_marked, AreMarkedNear, AreNoShorter, spare_of, HavePlacesOfBasis, is_placed, is_within_cap, cap_at, in_caps, in_round, IsCapped, AreKeptTo, AreKeptUpTo, AreCapped, IsKeptAt, IsBarring, KeepsInRound, AreLongerOr, AreNoLess, AreRaisedTo, fall_order, AreSigned, sorted_by_number}
-use Rattle.std.proofs.Math.Nat.{pow-suc}
-use Rattle.std.specs.Int.{reverse_bits_onto}
+use Rattle.surf_search.proofs.Common.{◌≡◌, ℕ, ◌<◌, max, ◌≤◌, ◌≢◌, ◌*◌, ◌^◌, ◌⊎◌, get_or-set_same, get_or-set_other, Bool, true, false, eqb, leb, le-leb, leb-true, not, List, [], length, get_or, set, All, eq-eqb, edge_count, Found, is_no_later, merge, get_or_default, no_member, Option, refl, sym, ap, ◌∙◌, subst, arith, inl, inr, IsTrue, ◌&&◌, cases_Bool, cases_eq, cases_lt, or_cases, or_left, or_right, and_parts, and_from, false≢true, Tree, IsSurface, ArePositive, IsLoopCount, MeetsAll, Place, get_or_past, choice_exists, least_base_on_way, shortest_trees, AgreeOff, with_near_places, Sought, AreSoughtFromStart, MeetsUpTo, either, everywhere, with_places, either_start, on_set_start, Candidate, Signed, Chosen, signed_earlier, independent_of, limit_of, SurfaceTables, AreFound, is_among, is_marked, AreMarkedNear, AreNoShorter, spare_of, HavePlacesOfBasis, is_placed, is_within_cap, cap_at, in_caps, in_round, IsCapped, AreKeptTo, AreKeptUpTo, AreCapped, IsKeptAt, IsBarring, KeepsInRound, AreLongerOr, AreNoLess, AreDone, AreRaisedTo, fall_order, AreSigned, sorted_by_number}
 use Rattle.surf_search.proofs.Asked.{caps_meet, cut_meets, raised_kept, capped_places, within_by_none, within_by_size, within_more}
 use Rattle.surf_search.proofs.Capped.{within_start, within_zero, is_beyond, kept_begun, kept_fewer, kept_next, kept_near}
 use Rattle.surf_search.proofs.Capping.{capped_more}
@@ -29,18 +27,28 @@ marked_inside marks v on = elim (cases_lt v (length marks)) [
   | inr past ↦ absurd (false≢true (sym (get_or_past marks v false past) ∙ on))
 ]
 
--- what was kept is enough in a round that has marked nothing
+-- what was kept is enough in a round that has marked only what was searched without a cap
 pub round_begun : (f : SurfaceTables) (caps : List ℕ) (choice : Chosen) (marks : List Bool) →
-    ((v : ℕ) → IsTrue (is_marked marks v) → ⊥) → IsSurface f.mesh → ArePositive f.mesh f.lengths →
+    AreDone caps marks → IsSurface f.mesh → ArePositive f.mesh f.lengths →
     AreKeptUpTo f (in_caps caps) choice → (bound : ℕ) → AreKeptUpTo f (in_round caps marks bound) choice
-round_begun f caps choice marks none surface positive kept bound trees chosen d split are =
+round_begun f caps choice marks done surface positive kept bound trees chosen d split are =
     kept_fewer f.mesh f.lengths (λ x. (trees x).tree) surface positive
     (shortest_trees f.mesh f.lengths surface positive trees chosen) d split (limit_of choice) (limit_of choice) (in_caps caps)
     (in_round caps marks bound) choice.kept (kept trees chosen d split are) (λ p on. on)
     (λ z p on. elim (or_cases (in_caps caps z p) (is_marked marks z && is_within_cap bound p) on) [
       | inl old ↦ old
-      | inr new ↦ absurd (none z (and_parts (is_marked marks z) (is_within_cap bound p) new).0)
+      | inr new ↦
+          let is = done z (and_parts (is_marked marks z) (is_within_cap bound p) new).0 in
+          within_by_none (cap_at caps z) p (omega (arith, is))
     ])
+
+-- where it has marked one more of these
+pub done_more : (caps : List ℕ) (old new : List Bool) (v : ℕ) → AreDone caps old → new ≡ set old v true →
+    cap_at caps v ≡ 18446744073709551615 → AreDone caps new
+done_more caps old new v h is all u on = elim (cases_eq u v) [
+  | inl here ↦ ap (cap_at caps) here ∙ all
+  | inr ne ↦ h u (sym (get_or-set_other old v u true false ne) ∙ ap (λ ms. is_marked ms u) (sym is) ∙ on)
+]
 
 -- for fewer places
 pub round_fewer : (f : SurfaceTables) (sought part : Sought) (choice : Chosen) → IsSurface f.mesh → ArePositive f.mesh f.lengths →
@@ -242,24 +250,10 @@ begun_at f caps z old new limit surface positive few_v few_e zero_is some room c
 
 -- ---- the order of falling caps
 
-bits_bound : (k n a m : ℕ) → a < 2 ^ m → reverse_bits_onto k n a < 2 ^ (m + k)
-unfolding reverse_bits_onto
-bits_bound zero n a m l = subst (λ (e : ℕ). a < 2 ^ e) (omega arith) l
-bits_bound (suc k) n a m l =
-    let twice : 2 ^ suc m ≡ 2 ^ m * 2 = pow-suc 2 m in
-    let more : suc m + k ≡ m + suc k = omega arith in
-    subst (λ (e : ℕ). reverse_bits_onto k (n / 2) (a * 2 + n % 2) < 2 ^ e) more
-    (bits_bound k (n / 2) (a * 2 + n % 2) (suc m) (omega (arith, l, twice)))
-
-caps_in_order : (a b x y : ℕ) → a < 2 ^ 64 → b < 2 ^ 64 → x < 2 ^ 32 → y < 2 ^ 32 →
-    (18446744073709551615 - a) * 2 ^ 32 + x ≤ (18446744073709551615 - b) * 2 ^ 32 + y → b ≤ a
-caps_in_order a b x y la lb lx ly le = omega arith
-
 -- in that order caps fall
-pub caps_fall : (caps : List ℕ) (u v : ℕ) → cap_at caps u < 2 ^ 64 → cap_at caps v < 2 ^ 64 → fall_order caps u ≤ fall_order caps v →
-    cap_at caps v ≤ cap_at caps u
-caps_fall caps u v lu lv le = caps_in_order (cap_at caps u) (cap_at caps v) (bits_backwards u) (bits_backwards v) lu lv
-    (bits_bound 32 u 0 0 (omega arith)) (bits_bound 32 v 0 0 (omega arith)) le
+pub caps_fall : (caps ranks : List ℕ) (u v : ℕ) → cap_at caps u < 2 ^ 64 → cap_at caps v < 2 ^ 64 → cap_at ranks u < 2 ^ 32 →
+    cap_at ranks v < 2 ^ 32 → fall_order caps ranks u ≤ fall_order caps ranks v → cap_at caps v ≤ cap_at caps u
+caps_fall caps ranks u v lu lv ru rv le = omega (arith, lu, lv, ru, rv, le)
 
 -- ---- the end of a round
 

@@ -1,5 +1,5 @@
 -- What is kept of the loops at the vertices of a list, vertex by vertex.
-use Rattle.surf_search.proofs.Common.{◌≡◌, ◌≢◌, ℕ, zero, suc, ◌<◌, ◌≤◌, ◌+◌, ◌^◌, ◌⊎◌, Bool, true, false, eqb, List, [], ◌∷◌, ◌++◌, length, get_or, map, take, All, Contains, IsPermutation, Option, Some, None, refl, sym, ap, ◌∙◌, subst, arith, inl, inr, eqb-true, IsTrue, nat_le, ◌==◌, AllByRecursion, cases_Bool, cases_eq, leb-true, or_cases, or_left, or_right, nat_tests, take_more, length-map, map-append, greedy, merge, numbers, is_nothing, chosen, Independent, Decides-is_nothing, xor-false, Split, IsSplit, Tree, Mesh, edge_count, IsSurface, IsClosed, ArePositive, parity, IsNull, IsIndependent, IsLoopCount, cells_of, class_of, AreShortestTrees, loop_walk, DependsOn, Contains-permutation, All-permutation, IsPermutation-map, IsPermutation-sym, greedy_law, Sorted, sorted_from_order, order_from_sorted, same_members, sorted_greedy, AllInSpan, InSpan, count, free_from_independent, Place, place_at, Found, walks_found, IsFoundAt, IsFoundLoop, AreEnoughOf, AreEnough, AreFoundAt, IsFoundChoice, comes_no_later, every_place, with_vertex, IsWithin, recursion_from_All, All-from_recursion, All-contains, Contains-append_left, Contains-append_cases, Contains-get_or, contains-map, choice_exists, null_by_class, independent_by_classes, least_base_on_way, loop_closed, short_searches_suffice, greedy_is_found_choice, found_closed, loops_grow_enough, all_each, all_mapped, CotreeTables, Candidate, Signed, Chosen, signed_earlier, independent_of, place_of, is_sought, last_of, limit_of, stands_before, IsShort, merged_sorted, sorted_by_number, before_last, limit_none, limit_last, limit_falls, all_sought, all_merged, all_kept, greedy_mapped, AreSigned, IsFound, AreFoundBy, AreFound, found_of, is_among}
+use Rattle.surf_search.proofs.Common.{◌≡◌, ◌≢◌, ℕ, zero, suc, ◌<◌, ◌≤◌, ◌+◌, ◌^◌, ◌⊎◌, true, false, false≢true, eqb, List, [], ◌∷◌, ◌++◌, length, get_or, map, take, All, Contains, IsPermutation, Option, refl, sym, ap, ◌∙◌, subst, arith, inl, inr, eqb-true, IsTrue, ◌==◌, AllByRecursion, or_cases, or_left, or_right, nat_tests, take_more, length-map, greedy, numbers, is_nothing, chosen, Independent, Decides-is_nothing, xor-false, Split, IsSplit, Tree, Mesh, edge_count, IsSurface, ArePositive, parity, IsNull, cells_of, class_of, AreShortestTrees, loop_walk, DependsOn, Contains-permutation, All-permutation, Sorted, AllInSpan, InSpan, count, free_from_independent, Found, IsFoundAt, IsFoundLoop, AreFoundAt, IsFoundChoice, comes_no_later, with_vertex, recursion_from_All, All-from_recursion, All-contains, Contains-get_or, contains-map, choice_exists, null_by_class, least_base_on_way, loop_closed, greedy_is_found_choice, found_closed, all_each, all_mapped, CotreeTables, Candidate, Signed, independent_of, place_of, is_sought, stands_before, IsShort, all_kept, greedy_mapped, AreSigned, IsFound, AreFoundBy, AreFound, found_of, is_among}
 use Rattle.surf_surfaces.proofs.Common.{all_kept as greedy_spans}
 use Rattle.surf_search.proofs.Signed.{class_small}
 
@@ -9,6 +9,14 @@ pub among_contained : (vs : List ℕ) (v : ℕ) → Contains vs v → is_among v
 among_contained [] v (k, l, e) = absurd (omega arith)
 among_contained (x ∷ xs) v (zero, l, e) = or_left (x == v) (is_among xs v) (let same : x ≡ v = e in grind (arith, nat_tests))
 among_contained (x ∷ xs) v (suc k, l, e) = or_right (x == v) (is_among xs v) (among_contained xs v (k, omega arith, e))
+
+-- and back
+pub among_contains : (vs : List ℕ) (v : ℕ) → is_among vs v ≡ true → Contains vs v
+among_contains [] v h = absurd (false≢true h)
+among_contains (x ∷ xs) v h = elim (or_cases (x == v) (is_among xs v) h) [
+  | inl here ↦ (0, omega arith, eqb-true x v here)
+  | inr after ↦ let (k, l, e) = among_contains xs v after in (suc k, omega (arith, l), e)
+]
 
 among_push : (xs : List ℕ) (z v : ℕ) → is_among (xs ++ z ∷ []) v ≡ true → (is_among xs v ≡ true) ⊎ (v ≡ z)
 among_push [] z v h = elim (or_cases (z == v) false h) [ inl on ↦ inr (grind (arith, nat_tests)) | inr off ↦ absurd (cc) ]

@@ -1,9 +1,13 @@
 -- What the tables of a search tell of the loops at its base.
-use Rattle.surf_search.proofs.Common.{◌≡◌, ◌≢◌, ℕ, zero, suc, ◌<◌, ◌≤◌, ◌+◌, ◌*◌, ◌/◌, ◌^◌, ◌++◌, ◌∷◌, [], true, false, not, ltb, eqb, eqb-true, cond, ◌-◌, List, length, get_or, map, slice_index, bit_xor, min, All, Contains, Option, Some, None, refl, sym, ap, ◌∙◌, subst, arith, inl, inr, IsTrue, ◌==◌, cases_Bool, cases_eq, cases_lt, and_parts, and_from, leb-true, le-leb, ltb-true, nat_tests, get_or_default, get_or_read, length-map, get_or-map, Split, Tree, Mesh, edge_count, ends, IsSurface, ArePositive, edge_length, edge_number, AreShortestTrees, loop_length, Trees, AreChosen, edge_signature, All-push, Contains-append_left, Contains-append_right, place_at, comes_sooner, least_base, least_on_way, shortest_trees, ends_are_near, zero_distance, least_tables_are_least, shortest_is_tree, shortest_is_shortest, way_class, loop_class, lengths_positive, ends_in, CotreeTables, Link, AreLinks, AreLinksAt, link_in, NearTables, IsNear, IsNearTo, is_near, link_all, Candidate, Signed, place_of, is_sought, AreDistances, radius_of, AreSignatures, WayTables, class_at, AreWays, Search, IsReady, IsLinkOf, IsRise, may_matter, is_between, told_loop, is_wanted, wanted_loop, IsTold, ListsAt, AreTold, IsFound, AreFoundBy}
+use Rattle.surf_search.proofs.Common.{◌≡◌, ◌≢◌, ℕ, zero, suc, ◌<◌, ◌≤◌, ◌+◌, ◌*◌, ◌/◌, ◌^◌, ◌++◌, ◌∷◌, [], true, not, ltb, eqb, eqb-true, cond, ◌-◌, List, length, get_or, map, slice_index, bit_xor, min, All, Contains, Option, Some, None, refl, sym, ap, ◌∙◌, subst, arith, inl, inr, IsTrue, ◌==◌, cases_Bool, cases_eq, cases_lt, and_parts, and_from, leb-true, le-leb, ltb-true, nat_tests, get_or_default, get_or_read, length-map, get_or-map, Split, Tree, Mesh, edge_count, ends, IsSurface, ArePositive, edge_length, edge_number, AreShortestTrees, loop_length, Trees, AreChosen, edge_signature, All-push, Contains-append_left, Contains-append_right, place_at, comes_sooner, least_base, least_on_way, shortest_trees, ends_are_near, zero_distance, least_tables_are_least, shortest_is_tree, shortest_is_shortest, way_class, loop_class, lengths_positive, ends_in, CotreeTables, Link, AreLinks, AreLinksAt, link_in, NearTables, IsNear, IsNearTo, is_near, link_all, Candidate, Signed, place_of, is_sought, AreDistances, radius_of, AreSignatures, WayTables, class_at, AreWays, Search, IsReady, IsLinkOf, IsRise, may_matter, is_between, told_loop, is_wanted, is_among, IsTold, ListsAt, IsFound, AreFoundBy, HasNoLater, precedes, CoversAt, AreFirstTold, ◌&&◌, ◌⊎◌, Bool, AllByRecursion, get_or-set_same, get_or-set_other, set, length-set, All-append, All-contains, All-from_recursion, Contains-get_or}
+use Rattle.surf_search.specs.declared.told_loops.Ties.{Ties}
+use Rattle.surf_search.specs.declared.told_loops.Ties.TheVariants.{LesserBase, LesserEdge}
+use Rattle.std.proofs.lemmas.List.Elements.{All-set}
 use Rattle.std.specs.Int.Bits.{xor_assoc, xor_comm}
 use Rattle.surf_lengths.specs.Lengths.{longest, AreLengths}
 use Rattle.surf_tree.proofs.LengthLaws.{short_lengths}
 use Rattle.surf_search.proofs.Climbed.{at_edge}
+use Rattle.surf_search.proofs.Searched.{among_contained, among_contains}
 
 -- ---- the ends of an edge in the tables
 
@@ -73,125 +77,219 @@ sooner_half c size base n before half = elim (cases_Bool (eqb c.base 0)) [
 
 -- ---- lists of them
 
--- a loop that is wanted is told
-pub told_wanted : (x : Search) (limit : Option Candidate) (e : ℕ) (s : Signed) → e < edge_count x.mesh →
-    wanted_loop x limit e ≡ Some s → IsTold x limit s
-told_wanted x limit e s e_in is = elim (cases_Bool (is_wanted x limit e)) [
-  | inl on ↦
-      let same : Some (told_loop x e) ≡ Some s = sym (wanted_on on) ∙ is in
-      let one : told_loop x e ≡ s = cc in
-      let edge : e ≡ s.candidate.edge = ap (λ (c : Signed). c.candidate.edge) one in
-      record {
-        edge_in = subst (λ n. n < edge_count x.mesh) edge e_in;
-        wanted = subst (λ n. is_wanted x limit n ≡ true) edge on;
-        told = sym one ∙ ap (told_loop x) edge;
-      }
-  | inr off ↦ let none : None ≡ Some s = sym (wanted_off off) ∙ is in cc
-]
-  where
-    wanted_on : is_wanted x limit e ≡ true → wanted_loop x limit e ≡ Some (told_loop x e)
-    wanted_on on = rw on refl
+precedes_self : (ties : Ties) (c : Candidate) → precedes ties c c ≡ true
+precedes_self LesserBase c = grind (arith, nat_tests)
+precedes_self LesserEdge c = grind (arith, nat_tests)
 
-    wanted_off : is_wanted x limit e ≡ false → wanted_loop x limit e ≡ None
-    wanted_off off = rw off refl
+-- one of the class that is no later
+pub no_later_self : (ties : Ties) (found : List Signed) (c : Signed) → Contains found c → HasNoLater ties found c
+no_later_self ties found c has = record { loop = c; listed = has; class = refl; no_later = precedes_self ties c.candidate }
 
--- it is the loop of the edge
-pub told_same : (x : Search) (limit : Option Candidate) (e : ℕ) (s : Signed) → wanted_loop x limit e ≡ Some s →
-    told_loop x e ≡ s
-told_same x limit e s is = elim (cases_Bool (is_wanted x limit e)) [
-  | inl on ↦ let same : Some (told_loop x e) ≡ Some s = sym (wanted_on on) ∙ is in cc
-  | inr off ↦ let none : None ≡ Some s = sym (wanted_off off) ∙ is in cc
-]
-  where
-    wanted_on : is_wanted x limit e ≡ true → wanted_loop x limit e ≡ Some (told_loop x e)
-    wanted_on on = rw on refl
+pub no_later_all : (ties : Ties) (found : List Signed) → All (HasNoLater ties found) found
+no_later_all ties found = λ k c l. no_later_self ties found (get_or found k c) (Contains-get_or found k c l)
 
-    wanted_off : is_wanted x limit e ≡ false → wanted_loop x limit e ≡ None
-    wanted_off off = rw off refl
+precedes-trans : (ties : Ties) (a b c : Candidate) → precedes ties a b ≡ true → precedes ties b c ≡ true → precedes ties a c ≡ true
+precedes-trans LesserBase a b c h k = grind (arith, nat_tests)
+precedes-trans LesserEdge a b c h k = grind (arith, nat_tests)
 
--- where none is given the loop isn't wanted
-pub told_off : (x : Search) (limit : Option Candidate) (e : ℕ) → wanted_loop x limit e ≡ None →
-    is_wanted x limit e ≡ true → ⊥
-told_off x limit e is on =
-    let some : Some (told_loop x e) ≡ None = sym (wanted_on on) ∙ is in cc
-  where
-    wanted_on : is_wanted x limit e ≡ true → wanted_loop x limit e ≡ Some (told_loop x e)
-    wanted_on on = rw on refl
+pub no_later_on : (ties : Ties) (old new : List Signed) (s : Signed) → All (HasNoLater ties new) old → HasNoLater ties old s → HasNoLater ties new s
+no_later_on ties old new s kept h =
+    let g = All-contains (HasNoLater ties new) old h.loop kept h.listed in
+    record {
+      loop = g.loop;
+      listed = g.listed;
+      class = g.class ∙ h.class;
+      no_later = precedes-trans ties g.loop.candidate h.loop.candidate s.candidate g.no_later h.no_later;
+    }
+
+-- the first of a listed loop and one of its class takes its place, and stands for both
+pub told_taken : (ties : Ties) (x : Search) (limit : Option Candidate) (found : List Signed) (k e : ℕ) (old : Signed) (first : Candidate) →
+    All (IsTold x limit) found → k < length found → old ≡ get_or found k old → e < edge_count x.mesh → is_between x e ≡ true →
+    is_sought limit (place_of (told_loop x e).candidate) ≡ true → (told_loop x e).signature ≡ old.signature →
+    (first ≡ (told_loop x e).candidate) ⊎ (first ≡ old.candidate) → precedes ties first (told_loop x e).candidate ≡ true →
+    precedes ties first old.candidate ≡ true → let new = set found k (record { candidate = first; from = old.from; signature = old.signature }) in
+    All (IsTold x limit) new × All (HasNoLater ties new) found × HasNoLater ties new (told_loop x e)
+told_taken ties x limit found k e old first each k_in is e_in between sought class either before before_old =
+    let m : Signed = record { candidate = first; from = old.from; signature = old.signature } in
+    let new = set found k m in
+    let was : IsTold x limit old = subst (IsTold x limit) (sym is) (each k old k_in) in
+    let some : not (old.signature == 0) ≡ true = subst (λ (c : Signed). not (c.signature == 0) ≡ true) (sym was.told)
+    (and_parts (is_sought limit _) _ (and_parts (is_between x _) _ was.wanted).1).1 in
+    let on : is_wanted x limit e ≡ true = and_from (is_between x e) _ between (and_from (is_sought limit _) _ sought
+    (subst (λ n. not (n == 0) ≡ true) (sym class) some)) in
+    let now : IsTold x limit m = elim either [
+      | inl fresh ↦
+          let same : told_loop x e ≡ m = sym (ap (λ c. record { candidate = c; from = old.from; signature = old.signature }) fresh
+          ∙ ap (λ n. record { candidate = (told_loop x e).candidate; from = n; signature = old.signature }) (ap (λ (c : Signed). c.from) was.told)
+          ∙ ap (λ n. record { candidate = (told_loop x e).candidate; from = x.base; signature = n }) (sym class)) in
+          subst (IsTold x limit) same (record { edge_in = e_in; wanted = on; told = refl })
+      | inr stays ↦ subst (IsTold x limit) (sym (ap (λ c. record { candidate = c; from = old.from; signature = old.signature }) stays)) was
+    ] in
+    let many : length new ≡ length found = length-set found k m in
+    let has : Contains new m = (k, omega (arith, k_in, many), get_or-set_same found k m m k_in) in (
+      All-set (IsTold x limit) found k m now each,
+      λ i d l. elim (cases_eq i k) [
+        | inl same ↦ record {
+          loop = m;
+          listed = has;
+          class = ap (λ (c : Signed). c.signature) (is ∙ get_or_default found k old d k_in ∙ ap (λ n. get_or found n d) (sym same));
+          no_later = subst (λ (c : Signed). precedes ties first c.candidate ≡ true)
+              (is ∙ get_or_default found k old d k_in ∙ ap (λ n. get_or found n d) (sym same)) before_old;
+        }
+        | inr ne ↦ no_later_self ties new (get_or found i d)
+            (i, omega (arith, l, many), get_or-set_other found k i m (get_or found i d) ne ∙ get_or_default found i (get_or found i d) d l)
+      ],
+      record { loop = m; listed = has; class = sym class; no_later = before },
+    )
+
+pub told_stands : (ties : Ties) (x : Search) (limit : Option Candidate) (found : List Signed) (k e : ℕ) (old s : Signed) →
+    All (IsTold x limit) found → k < length found → old ≡ get_or found k old → e < edge_count x.mesh → is_between x e ≡ true →
+    is_sought limit (place_of (told_loop x e).candidate) ≡ true → (told_loop x e).signature ≡ old.signature →
+    s ≡ record old { candidate = s.candidate } → (s.candidate ≡ (told_loop x e).candidate) ⊎ (s.candidate ≡ old.candidate) →
+    precedes ties s.candidate (told_loop x e).candidate ≡ true → precedes ties s.candidate old.candidate ≡ true →
+    All (IsTold x limit) (set found k s) × All (HasNoLater ties (set found k s)) found × HasNoLater ties (set found k s) (told_loop x e)
+told_stands ties x limit found k e old s each k_in is e_in between sought class rest either before before_old =
+    subst (λ m. All (IsTold x limit) (set found k m) × All (HasNoLater ties (set found k m)) found × HasNoLater ties (set found k m) (told_loop x e))
+    (sym rest) (told_taken ties x limit found k e old s.candidate each k_in is e_in between sought class either before before_old)
+
+-- one more
+pub told_pushed : (ties : Ties) (x : Search) (limit : Option Candidate) (found new : List Signed) (e : ℕ) (s : Signed) → All (IsTold x limit) found →
+    new ≡ found ++ s ∷ [] → s ≡ told_loop x e → e < edge_count x.mesh → is_wanted x limit e ≡ true →
+    All (IsTold x limit) new × All (HasNoLater ties new) found × HasNoLater ties new (told_loop x e)
+told_pushed ties x limit found new e s each push is e_in on =
+    let told : IsTold x limit s = subst (IsTold x limit) (sym is) (record { edge_in = e_in; wanted = on; told = refl }) in
+    let all = λ (ys : List Signed). All (IsTold x limit) ys × All (HasNoLater ties ys) found × HasNoLater ties ys (told_loop x e) in
+    subst all (sym push) (
+      All-push (IsTold x limit) found s each told,
+      λ k d l. no_later_self ties (found ++ s ∷ []) (get_or found k d)
+          (Contains-append_left found (s ∷ []) (get_or found k d) (Contains-get_or found k d l)),
+      no_later_self ties (found ++ s ∷ []) (told_loop x e) (Contains-append_right found (s ∷ []) (told_loop x e) (0, omega arith, is)),
+    )
+
+-- where the numbers of ways and two edges without a signature tell that two loops have one class
+pub alike_told : (x : Search) (e other u v low high : ℕ) → ends x.mesh e ≡ (u, v) → ends x.mesh other ≡ (low, high) →
+    (slice_index x.signs.signatures e == 0) ≡ true → (slice_index x.signs.signatures other == 0) ≡ true →
+    ((class_at x.ways u ≡ class_at x.ways low) × (class_at x.ways v ≡ class_at x.ways high))
+    ⊎ ((class_at x.ways u ≡ class_at x.ways high) × (class_at x.ways v ≡ class_at x.ways low)) →
+    (told_loop x e).signature ≡ (told_loop x other).signature
+alike_told x e other u v low high at there plain plain_too either =
+    let zero_is : slice_index x.signs.signatures e ≡ slice_index x.signs.signatures other =
+    eqb-true _ 0 plain ∙ sym (eqb-true _ 0 plain_too) in
+    let own : ℕ × ℕ → ℕ → ℕ = λ p s. bit_xor (bit_xor (class_at x.ways p.0) s) (class_at x.ways p.1) in
+    let n = slice_index x.signs.signatures other in
+    ap (λ p. own p (slice_index x.signs.signatures e)) at ∙ ap (own (u, v)) zero_is ∙ elim either [
+      | inl (first, second) ↦ ap (λ c. bit_xor (bit_xor c n) (class_at x.ways v)) first ∙ ap (bit_xor (bit_xor (class_at x.ways low) n)) second
+      | inr (first, second) ↦ ap (λ c. bit_xor (bit_xor c n) (class_at x.ways v)) first ∙ ap (bit_xor (bit_xor (class_at x.ways high) n)) second
+          ∙ xor_comm (bit_xor (class_at x.ways high) n) (class_at x.ways low) ∙ ap (bit_xor (class_at x.ways low)) (xor_comm (class_at x.ways high) n)
+          ∙ sym (xor_assoc (class_at x.ways low) n (class_at x.ways high))
+    ] ∙ sym (ap (λ p. own p n) there)
 
 -- ---- the links of a vertex, one after the other
 
 -- what a list has after the first links of a vertex, and what it had before
-pub record IsListedAt (x : Search) (limit : Option Candidate) (v : ℕ) (links : List Link) (old found : List Signed) (k : ℕ) : Type 0 where
+pub record IsListedAt (ties : Ties) (x : Search) (limit : Option Candidate) (v : ℕ) (links : List Link) (old found : List Signed) (k : ℕ) : Type 0 where
   pub each : All (IsTold x limit) found
-  pub kept : All (Contains found) old
+  pub kept : All (HasNoLater ties found) old
   pub here : (j : ℕ) → j < k → (ends x.mesh (link_in links j).edge).0 ≡ v → is_wanted x limit (link_in links j).edge ≡ true →
-      Contains found (told_loop x (link_in links j).edge)
+      HasNoLater ties found (told_loop x (link_in links j).edge)
 
-pub listed_first : (x : Search) (limit : Option Candidate) (v : ℕ) (links : List Link) (old : List Signed) →
-    All (IsTold x limit) old → IsListedAt x limit v links old old 0
-listed_first x limit v links old told = record {
+pub listed_first : (ties : Ties) (x : Search) (limit : Option Candidate) (v : ℕ) (links : List Link) (old : List Signed) →
+    All (IsTold x limit) old → IsListedAt ties x limit v links old old 0
+listed_first ties x limit v links old told = record {
   each = told;
-  kept = λ k d l. (k, l, get_or_default old k (get_or old k d) d l);
+  kept = no_later_all ties old;
   here = λ j l. absurd (omega arith);
 }
 
--- what one list has another has too
-pub contained : (old new : List Signed) (c : Signed) → All (Contains new) old → Contains old c → Contains new c
-contained old new c kept (k, l, is) = subst (Contains new) is (kept k c l)
-
-module _ (x : Search) (limit : Option Candidate) (v : ℕ) (links : List Link) (old : List Signed) where
-  -- one more loop
-  pub listed_push : (found new : List Signed) (k e : ℕ) (s : Signed) → IsListedAt x limit v links old found k →
-      (link_in links k).edge ≡ e → e < edge_count x.mesh → wanted_loop x limit e ≡ Some s → new ≡ found ++ s ∷ [] →
-      IsListedAt x limit v links old new (k + 1)
-  listed_push found new k e s h at e_in is push = subst (λ ys. IsListedAt x limit v links old ys (k + 1)) (sym push) (record {
-    each = All-push (IsTold x limit) found s h.each (told_wanted x limit e s e_in is);
-    kept = λ i d l. Contains-append_left found (s ∷ []) (get_or old i d) (h.kept i d l);
+module _ (ties : Ties) (x : Search) (limit : Option Candidate) (v : ℕ) (links : List Link) (old : List Signed) where
+  -- one more link
+  pub listed_more : (found new : List Signed) (k e : ℕ) → IsListedAt ties x limit v links old found k → (link_in links k).edge ≡ e →
+      All (IsTold x limit) new → All (HasNoLater ties new) found →
+      ((ends x.mesh e).0 ≡ v → is_wanted x limit e ≡ true → HasNoLater ties new (told_loop x e)) → IsListedAt ties x limit v links old new (k + 1)
+  listed_more found new k e h at each kept here = record {
+    each = each;
+    kept = λ i d l. no_later_on ties found new (get_or old i d) kept (h.kept i d l);
     here = λ j l low on. elim (cases_lt j k) [
-      | inl less ↦ Contains-append_left found (s ∷ []) (told_loop x (link_in links j).edge) (h.here j less low on)
+      | inl less ↦ no_later_on ties found new (told_loop x (link_in links j).edge) kept (h.here j less low on)
       | inr more ↦
-          let same : j ≡ k = omega arith in
-          let one : told_loop x (link_in links j).edge ≡ s =
-          ap (told_loop x) (ap (λ n. (link_in links n).edge) same ∙ at) ∙ told_same x limit e s is in
-          Contains-append_right found (s ∷ []) (told_loop x (link_in links j).edge)
-          (subst (Contains (s ∷ [])) (sym one) (0, omega arith, refl))
+          let same : e ≡ (link_in links j).edge = sym at ∙ ap (λ n. (link_in links n).edge) (let is : k ≡ j = omega arith in is) in
+          subst (λ n. HasNoLater ties new (told_loop x n)) same
+          (here (ap (λ n. (ends x.mesh n).0) same ∙ low) (ap (is_wanted x limit) same ∙ on))
     ];
-  })
-
-  -- no more
-  pub listed_same : (found new : List Signed) (k : ℕ) → IsListedAt x limit v links old found k → new ≡ found →
-      ((ends x.mesh (link_in links k).edge).0 ≡ v → is_wanted x limit (link_in links k).edge ≡ true → ⊥) →
-      IsListedAt x limit v links old new (k + 1)
-  listed_same found new k h same off = subst (λ ys. IsListedAt x limit v links old ys (k + 1)) (sym same) (record {
-    each = h.each;
-    kept = h.kept;
-    here = λ j l low on. elim (cases_lt j k) [
-      | inl less ↦ h.here j less low on
-      | inr more ↦
-          let is : j ≡ k = omega arith in
-          absurd (off (ap (λ n. (ends x.mesh (link_in links n).edge).0) (sym is) ∙ low)
-          (ap (λ n. is_wanted x limit (link_in links n).edge) (sym is) ∙ on))
-    ];
-  })
+  }
 
   -- all of them
-  pub listed_all : (lengths : List ℕ) (found : List Signed) (k : ℕ) → IsListedAt x limit v links old found k →
-      length links ≤ k → AreLinksAt x.mesh lengths v links → ListsAt x limit v found
+  pub listed_all : (lengths : List ℕ) (found : List Signed) (k : ℕ) → IsListedAt ties x limit v links old found k →
+      length links ≤ k → AreLinksAt x.mesh lengths v links → CoversAt ties x limit v found
   listed_all lengths found k h past are e e_in low on =
       let (j, l, is) = link_all x.mesh lengths v links are e e_in (inl low) in
-      subst (λ n. Contains found (told_loop x n)) is
+      subst (λ n. HasNoLater ties found (told_loop x n)) is
       (h.here j (omega arith) (ap (λ n. (ends x.mesh n).0) is ∙ low) (ap (is_wanted x limit) is ∙ on))
 
 -- the edges at one more vertex
-pub lists_more : (x : Search) (limit : Option Candidate) (settled : List ℕ) (i v : ℕ) (old new : List Signed) →
-    ((j : ℕ) → j < i → ListsAt x limit (slice_index settled j) old) → All (Contains new) old → ListsAt x limit v new →
-    v ≡ slice_index settled i → (j : ℕ) → j < i + 1 → ListsAt x limit (slice_index settled j) new
-lists_more x limit settled i v old new was kept here is j l e e_in low on = elim (cases_lt j i) [
-  | inl less ↦ contained old new (told_loop x e) kept (was j less e e_in low on)
+pub lists_more : (ties : Ties) (x : Search) (limit : Option Candidate) (settled : List ℕ) (i v : ℕ) (old new : List Signed) →
+    ((j : ℕ) → j < i → CoversAt ties x limit (slice_index settled j) old) → All (HasNoLater ties new) old → CoversAt ties x limit v new →
+    v ≡ slice_index settled i → (j : ℕ) → j < i + 1 → CoversAt ties x limit (slice_index settled j) new
+lists_more ties x limit settled i v old new was kept here is j l e e_in low on = elim (cases_lt j i) [
+  | inl less ↦ no_later_on ties old new (told_loop x e) kept (was j less e e_in low on)
   | inr more ↦
       let same : j ≡ i = omega arith in
       here e e_in (low ∙ ap (slice_index settled) same ∙ sym is) on
 ]
+
+-- ---- those that are left out
+
+-- the edge's loop is wanted, and its lesser end was settled
+abbrev is_due : Search → Option Candidate → ℕ → Bool
+is_due x limit e = is_wanted x limit e && is_among x.near.settled (ends x.mesh e).0
+
+abbrev due_below : Search → Option Candidate → ℕ → List Signed
+due_below x limit zero = []
+due_below x limit (suc e) = cond (is_due x limit e) (told_loop x e ∷ due_below x limit e) (due_below x limit e)
+
+due_each : (x : Search) (limit : Option Candidate) (P : Signed → Type 0) (n : ℕ) →
+    ((e : ℕ) → e < n → is_due x limit e ≡ true → P (told_loop x e)) → AllByRecursion P (due_below x limit n)
+due_each x limit P zero h = tt
+due_each x limit P (suc e) h =
+    let rest = due_each x limit P e (λ f l. h f (omega arith)) in
+    elim (cases_Bool (is_due x limit e)) [ inl on ↦ rw on (h e (omega arith) on, rest) | inr off ↦ rw off rest ]
+
+due_has : (x : Search) (limit : Option Candidate) (n e : ℕ) → e < n → is_due x limit e ≡ true → Contains (due_below x limit n) (told_loop x e)
+due_has x limit zero e l on = absurd (omega arith)
+due_has x limit (suc n) e l on = elim (cases_eq e n) [
+  | inl same ↦ rw (subst (λ k. is_due x limit k ≡ true) same on) (0, omega arith, ap (told_loop x) (sym same))
+  | inr ne ↦
+      let rest = due_has x limit n e (omega arith) on in
+      elim (cases_Bool (is_due x limit n)) [
+        | inl more ↦ rw more (Contains-append_right (told_loop x n ∷ []) (due_below x limit n) (told_loop x e) rest)
+        | inr off ↦ rw off rest
+      ]
+]
+
+-- candidates are told, and those of the edges whose lesser ends were settled are among them
+pub record AreTold (x : Search) (limit : Option Candidate) (found : List Signed) : Type 0 where
+  pub each : All (IsTold x limit) found
+  pub all : (i : ℕ) → i < length x.near.settled → ListsAt x limit (slice_index x.near.settled i) found
+
+-- with those that are left out all are told
+pub first_told : (ties : Ties) (x : Search) (limit : Option Candidate) (found : List Signed) → AreFirstTold ties x limit found →
+    (left : List Signed) × AreTold x limit (left ++ found) × All (HasNoLater ties found) left
+first_told ties x limit found h =
+    let left = due_below x limit (edge_count x.mesh) in
+    let parts : (e : ℕ) → is_due x limit e ≡ true → (is_wanted x limit e ≡ true) × (is_among x.near.settled (ends x.mesh e).0 ≡ true) =
+    λ e. and_parts (is_wanted x limit e) (is_among x.near.settled (ends x.mesh e).0) in (
+      left,
+      record {
+        each = All-append (IsTold x limit) left found (All-from_recursion (IsTold x limit) left
+            (due_each x limit (IsTold x limit) (edge_count x.mesh) (λ e e_in on. record { edge_in = e_in; wanted = (parts e on).0; told = refl }))) h.each;
+        all = λ i l e e_in low on. Contains-append_left left found (told_loop x e) (due_has x limit (edge_count x.mesh) e e_in
+            (and_from (is_wanted x limit e) (is_among x.near.settled (ends x.mesh e).0) on
+            (among_contained x.near.settled (ends x.mesh e).0 (i, l, get_or_default x.near.settled i (ends x.mesh e).0 0 l ∙ sym low))));
+      },
+      All-from_recursion (HasNoLater ties found) left (due_each x limit (HasNoLater ties found) (edge_count x.mesh) (λ e e_in on.
+          (let (i, l, is) = among_contains x.near.settled (ends x.mesh e).0 (parts e on).1 in
+          h.all i l e e_in (sym is ∙ get_or_default x.near.settled i (ends x.mesh e).0 0 l) (parts e on).0))),
+    )
 
 -- what a search was made for, as it was asked
 pub near_there : (mesh m : Mesh) (lengths l : List ℕ) (z far r : ℕ) (t : NearTables) → m ≡ mesh → l ≡ lengths → r ≡ far →

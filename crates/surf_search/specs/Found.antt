@@ -1,5 +1,5 @@
 -- Loops that searches find, as signed candidates.
-use Rattle.std.specs.Prelude.{ℕ, ◌≡◌, ◌≢◌, ◌<◌, ◌+◌, ◌^◌, ◌==◌, ◌&&◌, ◌||◌, true, false, ◌⊎◌, fold, IsPermutation, not, min, nat_lt, Bool, IsTrue, bit_xor, List, [], ◌∷◌, map, All, Contains, length, slice_index, Option, Some, None, if◌then◌else◌}
+use Rattle.std.specs.Prelude.{ℕ, ◌≡◌, ◌≢◌, ◌<◌, ◌+◌, ◌++◌, nat_le, ◌^◌, ◌==◌, ◌&&◌, ◌||◌, true, false, ◌⊎◌, fold, IsPermutation, not, min, nat_lt, Bool, IsTrue, bit_xor, List, [], ◌∷◌, map, All, Contains, length, slice_index, Option, Some, None, if◌then◌else◌}
 use Rattle.std.specs.List.Sorted.{IsNonDecreasingBy}
 use Rattle.surf_z2.specs.Order.{merge}
 use Rattle.surf_graphs.specs.Cells.{Split, IsSplit}
@@ -22,6 +22,8 @@ use Rattle.surf_choice.specs.Candidates.{Chosen, earlier, signed_earlier, indepe
 use Rattle.surf_choice.specs.Places.{place_of, order_of, is_sought}
 use Rattle.surf_search.specs.declared.reached.Reached.{Reached}
 use Rattle.surf_search.specs.declared.surface.SignedSurface.{SignedSurface}
+use Rattle.surf_search.specs.declared.told_loops.Ties.{Ties}
+use Rattle.surf_search.specs.declared.told_loops.Ties.TheVariants.{LesserBase, LesserEdge}
 use Rattle.surf_search.specs.Signing.{AreSignatures}
 use Rattle.surf_search.specs.Ways.{WayTables, class_at}
 
@@ -127,14 +129,31 @@ abbrev pub ListsAt : Search → Option Candidate → ℕ → List Signed → Typ
 ListsAt x limit v found = (e : ℕ) → e < edge_count x.mesh → (ends x.mesh e).0 ≡ v → is_wanted x limit e ≡ true →
     Contains found (told_loop x e)
 
--- candidates are told, and those of the edges whose lesser ends were settled are among them
-pub record AreTold (x : Search) (limit : Option Candidate) (found : List Signed) : Type 0 where
-  pub each : All (IsTold x limit) found
-  pub all : (i : ℕ) → i < length x.near.settled → ListsAt x limit (slice_index x.near.settled i) found
+-- the first of two candidates of one length, by the lesser base or by the lesser edge
+abbrev pub is_first : Ties → Candidate → Candidate → Bool
+is_first LesserBase c d = nat_lt c.base d.base || ((c.base == d.base) && nat_le c.edge d.edge)
+is_first LesserEdge c d = nat_le c.edge d.edge
 
--- the loop of an edge, if it is wanted
-abbrev pub wanted_loop : Search → Option Candidate → ℕ → Option Signed
-wanted_loop x limit e = if is_wanted x limit e then Some (told_loop x e) else None
+-- one candidate is no later than another
+abbrev pub precedes : Ties → Candidate → Candidate → Bool
+precedes ties c d = nat_lt c.length d.length || ((c.length == d.length) && is_first ties c d)
+
+-- a loop is listed that has the class of another and is no later
+pub record HasNoLater (ties : Ties) (found : List Signed) (s : Signed) : Type 0 where
+  pub loop : Signed
+  pub listed : Contains found loop
+  pub class : loop.signature ≡ s.signature
+  pub no_later : IsTrue (precedes ties loop.candidate s.candidate)
+
+-- the loops of the edges with a lesser end are listed, or others of their classes that are no later
+abbrev pub CoversAt : Ties → Search → Option Candidate → ℕ → List Signed → Type 0
+CoversAt ties x limit v found = (e : ℕ) → e < edge_count x.mesh → (ends x.mesh e).0 ≡ v → is_wanted x limit e ≡ true →
+    HasNoLater ties found (told_loop x e)
+
+-- candidates are told, and they are enough for the edges whose lesser ends were settled
+pub record AreFirstTold (ties : Ties) (x : Search) (limit : Option Candidate) (found : List Signed) : Type 0 where
+  pub each : All (IsTold x limit) found
+  pub all : (i : ℕ) → i < length x.near.settled → CoversAt ties x limit (slice_index x.near.settled i) found
 
 -- ---- loops by trees of shortest walks
 
@@ -161,6 +180,14 @@ pub record AreFoundBy (mesh : Mesh) (lengths : List ℕ) (trees : ℕ → Tree) 
 abbrev pub AreFound : Mesh → List ℕ → CotreeTables → Option Candidate → ℕ → List Signed → Type 0
 AreFound mesh lengths s limit z found = (trees : ℕ → Trees) → AreChosen mesh lengths trees → (d : Split) →
     AreSignatures mesh d s → AreFoundBy mesh lengths (λ x. (trees x).tree) d limit z found
+
+-- candidates are loops at a vertex that aren't null and come before a limit: each that isn't listed has a listed one of
+-- its class that is no later
+pub record AreFirstFound (ties : Ties) (mesh : Mesh) (lengths : List ℕ) (s : CotreeTables) (limit : Option Candidate) (z : ℕ)
+    (found : List Signed) : Type 0 where
+  pub left : List Signed
+  pub are : AreFound mesh lengths s limit z (left ++ found)
+  pub no_later : All (HasNoLater ties found) left
 
 -- ---- what is kept of them
 

@@ -21,7 +21,6 @@ use Rattle.surf_choice.specs.Candidates.{Chosen, IsSumOfLength, independent_of, 
 use Rattle.surf_choice.specs.Places.{is_sought, limit_of, order_of, stands_before}
 use Rattle.surf_search.specs.declared.caps.Ask.{Ask}
 use Rattle.surf_search.specs.Found.{SurfaceTables, AreFound}
-use Rattle.surf_search.specs.Marks.{bits_backwards}
 use Rattle.surf_search.specs.Passing.{AreNoShorter, IsAhead, is_marked}
 use Rattle.surf_search.specs.Signing.{AreSignatures}
 
@@ -107,9 +106,17 @@ abbrev pub AreLongerOr : List Signed → ℕ → ℕ → List Signed → Type 0
 AreLongerOr kept least margin found = All (λ s. (sum : ℕ) × IsSumOfLength kept sum s.signature
     × ((sum ≤ least) ⊎ (sum + margin ≤ s.candidate.length))) found
 
--- a number that is greater for a lesser cap
-abbrev pub fall_order : List ℕ → ℕ → ℕ
-fall_order caps v = (18446744073709551615 - cap_at caps v) * 2 ^ 32 + bits_backwards v
+-- a number that is greater for a lesser cap, and among those of one cap for a greater rank
+abbrev pub fall_order : List ℕ → List ℕ → ℕ → ℕ
+fall_order caps ranks v = (18446744073709551615 - cap_at caps v) * 2 ^ 32 + slice_index_or ranks v 0
+
+-- no vertex of a list has a greater cap than one before it
+abbrev pub AreFalling : List ℕ → List ℕ → Type 0
+AreFalling caps list = (i j d : ℕ) → i ≤ j → j < length list → cap_at caps (slice_index_or list j d) ≤ cap_at caps (slice_index_or list i d)
+
+-- the vertices that are marked were searched without a cap
+abbrev pub AreDone : List ℕ → List Bool → Type 0
+AreDone reached marks = (v : ℕ) → IsTrue (is_marked marks v) → cap_at reached v ≡ 18446744073709551615
 
 -- caps are raised to a length, where they were less
 pub record AreRaisedTo (most : ℕ) (old new : List ℕ) : Type 0 where

@@ -37,10 +37,10 @@ fn cost_of_round(distances: &[u64], reached: &[u64], caps: &[u64], most: u64) ->
     cost
 }
 
-/// Whether searches from the vertices of a cut cost less than those by caps. More of them are spared
-/// by what was searched before, so that they may come to four times as many vertices, or twice as
-/// many where all edges are as long. Either answer is right: only the time that it takes depends on
-/// it.
+/// Whether searches from the vertices of a cut cost less than those by caps. More of them are
+/// spared by what was searched before, so that they may come to four times as many vertices, or to
+/// half as many again where all edges are as long. This was measured on meshes with many handles.
+/// Either answer is right: only the time that it takes depends on it.
 pub(crate) fn is_cut_cheaper(
     costs: &Costs<'_>,
     limit: &Option<Candidate>,
@@ -55,7 +55,8 @@ pub(crate) fn is_cut_cheaper(
         Some(last) => last.length,
         None => u64::MAX,
     };
-    let times = if costs.even { 2 } else { 4 };
-    let by_caps = cost_of_round(costs.distances, reached, caps, most).saturating_mul(times);
-    cost_of_round(costs.distances, reached, cut, most) <= by_caps
+    let by_cut = cost_of_round(costs.distances, reached, cut, most);
+    let by_caps = cost_of_round(costs.distances, reached, caps, most);
+    let halves = if costs.even { 3 } else { 8 };
+    by_cut.saturating_mul(2) <= by_caps.saturating_mul(halves)
 }

@@ -6,7 +6,7 @@ ghost use Rattle.surf_firsts.specs.Near.{AgreeOff};
 ghost use Rattle.surf_near.specs.Links.{IsShutAt};
 ghost use Rattle.surf_near.specs.Near.{AreNearTables, IsNear};
 ghost use Rattle.surf_search.specs.Walks.{AreWalksOf, AreWrittenTo, IsMeasured};
-ghost use Rattle.surf_search.specs.Found.{surface_of, AreFound, IsFirstAt, plain_edges};
+ghost use Rattle.surf_search.specs.Found.{surface_of, AreFirstFound, IsFirstAt, plain_edges};
 ghost use Rattle.surf_search.specs.Passing.{is_marked, AreMarkedNear, AreNoShorter, AreShut};
 ghost use Rattle.surf_search.specs.Places.{AreDistances, radius_of};
 ghost use Rattle.surf_search.specs.Ways.{AreWays};
@@ -15,9 +15,9 @@ use crate::foremost::first_told;
 use crate::marks::mark_all;
 use crate::reached::{Reached, radius};
 use crate::surface::SignedSurface;
-use crate::told_loops::list_loops;
+use crate::told_loops::{Ties, list_loops};
 use crate::walks::{greatest_at, no_walks, write_walks};
-use crate::ways::Ways;
+use crate::ways::{SLOTS, Ways};
 use std::alloc::Global;
 use std::marker::Model;
 use surf_base::{EdgeId, NoMemory, VertexId};
@@ -72,6 +72,7 @@ pub struct Finder<'a> {
     links: Links<'a>,
     tables: Tables,
     plain: Vec<bool>,
+    slots: Vec<usize>,
 }
 
 impl<'a> Model for Finder<'a> {
@@ -92,7 +93,8 @@ impl<'a> Model for Finder<'a> {
         × AreNearTables f.surface.mesh.now f.tables.desk
         × (length f.tables.ways.numbers ≡ f.surface.mesh.now.vertices)
         × (length f.surface.signatures.now.signatures ≡ edge_count f.surface.mesh.now)
-        × (f.plain.items ≡ plain_edges f.surface.signatures.now) };
+        × (f.plain.items ≡ plain_edges f.surface.signatures.now)
+        × (length f.slots.items ≡ 1024) };
 }
 
 // Lists the distances of the vertices that a search has settled, in its order.
@@ -149,18 +151,22 @@ impl<'a> Finder<'a> {
             links,
             tables,
             plain,
+            slots: vec![in alloc; 0; SLOTS]?,
         })
     }
 
-    /// Finds the loops at a base that aren't null and come before a limit, if there is one.
+    /// Finds the loops at a base that aren't null and come before a limit, if there is one. Of those
+    /// of one class it leaves out the later ones, as far as it sees that they are of one class.
+    /// `ties` says which is first of two of one length.
     pub fn find(
         &mut self,
         base: VertexId,
         limit: &Option<Candidate>,
+        ties: Ties,
         found: &mut Vec<Signed>,
     ) -> Result<(), NoMemory>
         requires base { base < self.old.mesh.vertices }
-        ensures found { OnOk result (AreFound self.old.mesh self.old.lengths self.old.signs
+        ensures found { OnOk result (AreFirstFound ties self.old.mesh self.old.lengths self.old.signs
             limit.now base found.new.items) }
         ensures same { self.new ≡ self.old }
     {
@@ -174,8 +180,9 @@ impl<'a> Finder<'a> {
             desk: &self.tables.desk,
             ways: &self.tables.ways,
             plain: &self.plain,
+            ties,
         };
-        list_loops(&reached, limit, found)
+        list_loops(&reached, limit, &mut self.slots, found)
     }
 
     /// How many vertices the surface has.
@@ -319,6 +326,7 @@ impl<'a> Finder<'a> {
             desk: &self.tables.desk,
             ways: &self.tables.ways,
             plain: &self.plain,
+            ties: Ties::LesserBase,
         };
         Ok(first_told(&reached, limit))
     }

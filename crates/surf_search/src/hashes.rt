@@ -1,13 +1,12 @@
 //! Hashes of signatures, such that the hash of a sum is the sum of the hashes. Whether two
 //! signatures are the same is asked of the signatures: only the time that it takes depends on
 //! hashes.
-ghost use Rattle.std.specs.Prelude.{◌≡◌, ◌≤◌, length};
+ghost use Rattle.std.specs.Prelude.{◌≡◌, ◌<◌, length};
 ghost use Rattle.surf_surfaces.specs.Surface.{edge_count};
-ghost use Rattle.surf_base.specs.declared.limits.TheConstants.{MAX_LOOPS};
 
 use crate::surface::SignedSurface;
 use std::alloc::Global;
-use surf_base::{EdgeId, MAX_LOOPS, NoMemory};
+use surf_base::{EdgeId, NoMemory};
 use surf_bits::Bits;
 
 // The hash of a number: one of 64 bits that look as if they were thrown. (The steps are those of
@@ -19,17 +18,26 @@ fn scattered(number: u32) -> u64 {
     word ^ (word >> 31)
 }
 
-// The hash of a set of numbers below a width: the sum of those of its numbers.
-fn hash_of(set: &Bits<'_>, width: u32) -> u64
-    requires width { width ≤ MAX_LOOPS }
+// The hash of the numbers that a word of a set writes.
+fn hash_of_word(word: u64, place: u32) -> u64
+    requires place { place < 16 }
 {
-    if set.is_empty() {
-        return 0;
-    }
     let mut hash = 0;
-    for number in 0..width {
-        if set.bit(number) {
-            hash ^= scattered(number);
+    for bit in 0..64 {
+        if (word >> bit) & 1 == 1 {
+            hash ^= scattered(64 * place + bit);
+        }
+    }
+    hash
+}
+
+// The hash of a set of numbers: the sum of those of its numbers. Most words of most sets are zero.
+fn hash_of(set: &Bits<'_>) -> u64 {
+    let words = set.words();
+    let mut hash = 0;
+    for place in 0..words.len() {
+        if words[place] != 0 {
+            hash ^= hash_of_word(words[place], place as u32);
         }
     }
     hash
@@ -41,11 +49,10 @@ pub(crate) fn edge_hashes(alloc: Global, surface: &SignedSurface<'_>) -> Result<
         ≡ edge_count surface.now.mesh.now }
 {
     surface.mesh.law_of_surface();
-    let width = surface.signatures.left().len().min(MAX_LOOPS as usize) as u32;
     let mut hashes = Vec::with_capacity(alloc, surface.mesh.edges() as usize)?;
     for e in 0..surface.mesh.edges() {
         let signature = surface.signatures.signature(EdgeId::new(e));
-        hashes.push(hash_of(&signature, width))?;
+        hashes.push(hash_of(&signature))?;
     }
     Ok(hashes)
 }

@@ -1,10 +1,10 @@
 //! Loops among which a shortest basis of the closed walks of a surface is, and the first of them.
 //!
 //! A [`Finder`] searches from a vertex and finds the loops of edges there, with the least vertex on
-//! a shortest way to them. Of all that is found the shortest independent loops are kept: the loops
-//! of the basis have their lengths, and their least vertices as bases. Once as many are kept as
-//! there may be, a search goes no farther than half the length of the last, since the ends of an
-//! edge are within half the length of its loop.
+//! a shortest way to them. Of many loops of one class only the first matters. Of all that is found
+//! the shortest independent loops are kept: the loops of the basis have their lengths, and their
+//! least vertices as bases. Once as many are kept as there may be, a search goes no farther than
+//! half the length of the last, since the ends of an edge are within half the length of its loop.
 //!
 //! Most vertices need not be searched as far as the longest loop of the basis goes. Where the
 //! signature of an edge is a sum of the first of the loops that are kept, a loop over it that is
@@ -23,15 +23,17 @@
 //! and each round takes what costs less, which is estimated from how many vertices are within a
 //! radius (`costs.rt`).
 //!
-//! In a round the greatest caps are first (`round.rt`), those of one cap in an order that scatters
-//! them, so that short loops of all parts are found soon. To each search the ways through vertices
-//! that are done with are barred: the edges there are as long as an edge may be. It needs no
-//! others, since a loop that goes through such a vertex is a sum of loops there, for which what is
-//! kept is enough already (`law_of_barred_searches` of `surf_caps`). A search may go somewhat
-//! farther than it must. Where all loops that it finds are longer than kept ones of which they are
-//! sums, by more than a way there and back, the vertices that are so near are done with too. Loops
-//! that are sums of kept ones up to the length of the round before are no matter to that. Where
-//! searches tell nothing of the vertices near them they go farther ever more seldom.
+//! In a round the greatest caps are first (`round.rt`). Of one cap the vertices with many edges are
+//! first, and the others are in an order that scatters them, so that short loops of all parts are
+//! found soon. To each search the ways through vertices that are done with are barred: the edges
+//! there are as long as an edge may be. Vertex 0 is done with from the start, since it was searched
+//! as far as the surface goes. A search needs no barred edges, since a loop that goes through such
+//! a vertex is a sum of loops there, for which what is kept is enough already
+//! (`law_of_barred_searches` of `surf_caps`). A search may go somewhat farther than it must. Where
+//! all loops that it finds are longer than kept ones of which they are sums, by more than a way
+//! there and back, the vertices that are so near are done with too. Loops that are sums of kept
+//! ones up to the length of the round before are no matter to that. Where searches tell nothing of
+//! the vertices near them they go farther ever more seldom.
 //!
 //! Whether a loop is independent of others is told by its signature, a sum over its edges of
 //! signatures that one base gives for all.
@@ -64,3 +66,4 @@ pub use kept_loops::keep_loops;
 pub use marks::{list_marked, scatter};
 pub use rounds::sufficient_loops;
 pub use surface::SignedSurface;
+pub use told_loops::Ties;

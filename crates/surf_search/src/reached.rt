@@ -6,6 +6,7 @@ ghost use Rattle.surf_search.specs.Found.{IsReady, IsLinkOf, IsRise, IsUnwantedA
 ghost use Rattle.surf_search.specs.Places.{radius_of};
 
 use crate::surface::SignedSurface;
+use crate::told_loops::Ties;
 use crate::ways::Ways;
 use surf_base::{EdgeId, VertexId};
 use surf_bits::Signature;
@@ -13,7 +14,7 @@ use surf_choice::Candidate;
 use surf_near::{Link, Links, NearDesk};
 
 /// What a search from a base has reached, on a surface whose vertices have links. Lengths are those
-/// of the links.
+/// of the links. Of loops of one class and one length it says which is listed.
 #[derive(Clone, Copy)]
 pub(crate) struct Reached<'r, 'a> {
     pub surface: &'r SignedSurface<'a>,
@@ -21,6 +22,7 @@ pub(crate) struct Reached<'r, 'a> {
     pub desk: &'r NearDesk,
     pub ways: &'r Ways,
     pub plain: &'r [bool],
+    pub ties: Ties,
 }
 
 // Whether a candidate comes before a limit, by length and then by base.
@@ -96,7 +98,7 @@ pub(crate) fn class_of(reached: &Reached<'_, '_>, v: VertexId, link: &Link) -> S
 }
 
 // Whether the signature of an edge is empty.
-fn is_plain(reached: &Reached<'_, '_>, edge: EdgeId) -> bool
+pub(crate) fn is_plain(reached: &Reached<'_, '_>, edge: EdgeId) -> bool
     requires plain { reached.now.plain.now ≡ plain_edges reached.now.surface.now.signatures.now }
     requires edge { edge < length reached.now.surface.now.signatures.now.signatures }
     ensures plain { result

@@ -1,11 +1,11 @@
 //! A round of searches: each goes no farther than a cap, and past no vertex that is done with.
-ghost use Rattle.std.specs.Prelude.{◌≡◌, ◌≢◌, ◌<◌, ◌≤◌, ◌-◌, ◌^◌, ◌⊎◌, ℕ, true, false, IsTrue, All, IfOk, OnOk, IsPermutation, length, slice_index_or};
-ghost use Rattle.std.specs.List.Sorted.{IsNonDecreasingBy};
+ghost use Rattle.std.specs.Prelude.{◌≡◌, ◌≢◌, ◌<◌, ◌≤◌, ◌-◌, ◌^◌, ◌⊎◌, ℕ, true, false, IsTrue, All, IfOk, OnOk, IsPermutation, length, slice_index_or, slice_set};
 ghost use Rattle.surf_surfaces.specs.Surface.{edge_count};
 ghost use Rattle.surf_choice.specs.Places.{place_of, is_sought, limit_of};
-ghost use Rattle.surf_search.specs.Found.{surface_of, AreFound};
+ghost use Rattle.surf_search.specs.Found.{surface_of, AreFirstFound};
+ghost use Rattle.surf_search.specs.declared.told_loops.Ties.TheVariants.{LesserBase};
 ghost use Rattle.surf_search.specs.Passing.{is_marked};
-ghost use Rattle.surf_search.specs.Rounds.{AreKeptUpTo, AreLongerOr, AreNoLess, AreRising, IsBarring, IsCapped, IsKeptAt, KeepsInRound, cap_at, fall_order, in_caps, in_round, IsWider};
+ghost use Rattle.surf_search.specs.Rounds.{AreDone, AreFalling, AreKeptUpTo, AreLongerOr, AreNoLess, AreRising, IsBarring, IsCapped, IsKeptAt, KeepsInRound, cap_at, fall_order, in_caps, in_round, IsWider};
 ghost use Rattle.surf_search.specs.Signing.{AreSigned};
 
 use crate::finder::Finder;
@@ -14,9 +14,14 @@ use crate::pace::{Pace, spare};
 use crate::reached::is_sought;
 use crate::scout::Scout;
 use crate::surface::SignedSurface;
+use crate::told_loops::Ties;
 use std::alloc::Global;
 use surf_base::{EdgeId, NoMemory, VertexId};
 use surf_choice::{Candidate, Choice, Signed};
+use surf_mesh::HalfMesh;
+
+// Vertices with more edges than this are searched before others of their cap.
+const MANY_EDGES: usize = 16;
 
 /// A round on a surface: its scout, the vertices that are marked, where the loops of the round are
 /// no longer sought, what the last search found, and a length up to which nothing is left to find.
@@ -64,7 +69,7 @@ fn count_sooner(found: &[Signed], limit: &Option<Candidate>) -> usize
     0
 }
 
-// Finds the loops at a vertex up to a limit. Of those up to an earlier one it keeps what is
+// Finds the loops at a vertex up to a limit, of each class the first. Of those up to an earlier one it keeps what is
 // independent of the loops kept before.
 pub(crate) fn keep_at(
     finder: &mut Finder<'_>,
@@ -78,14 +83,14 @@ pub(crate) fn keep_at(
     requires signed { AreSigned finder.old.mesh finder.old.signs choice.old.width }
     requires few { (finder.old.mesh.vertices ≤ 2 ^ 32) × (edge_count finder.old.mesh ≤ 2 ^ 32) }
     requires wide { IsWider limit.now wide.now }
-    ensures found { OnOk result (AreFound finder.old.mesh finder.old.lengths finder.old.signs
+    ensures found { OnOk result (AreFirstFound LesserBase finder.old.mesh finder.old.lengths finder.old.signs
         wide.now base found.new.items) }
     ensures kept { OnOk result (IsKeptAt finder.old base limit.now choice.old choice.new) }
     ensures width { choice.new.width ≡ choice.old.width }
     ensures same { finder.new ≡ finder.old }
 {
     finder.law_of_finder();
-    finder.find(base, wide, found)?;
+    finder.find(base, wide, Ties::LesserBase, found)?;
     sort_loops(found);
     let count = count_sooner(found, limit);
     choice.keep(&found[..count])
@@ -112,6 +117,20 @@ fn margin_above(choice: &Choice, found: &[Signed], least: u64, most: u64) -> u64
         }
     }
     margin
+}
+
+// Marks a vertex, and bars the ways through it.
+fn bar(round: &mut Round<'_, '_>, base: VertexId)
+    requires base { base < round.old.surface.now.mesh.now.vertices }
+    requires barring { IsBarring (surface_of round.old.surface.now) round.old.scout.finder
+        round.old.marks.items }
+    ensures marks { round.new.marks.items ≡ slice_set round.old.marks.items base true }
+    ensures barring { IsBarring (surface_of round.old.surface.now) round.new.scout.finder
+        round.new.marks.items }
+    ensures surface { round.new.surface ≡ round.old.surface }
+    ensures least { round.new.least ≡ round.old.least }
+{
+    round.scout.finder.mark(base, &mut round.marks);
 }
 
 // Searches from a vertex, and keeps what is new there up to a cap. Then the vertex is marked, and
@@ -150,11 +169,11 @@ fn search(
     )?;
     let spare = spare(&capped(&choice.limit(), cap), &wide);
     let margin = margin_above(choice, &round.found, round.least, spare);
-    round.scout.pace.step(margin > 0);
-    if margin == 0 {
-        round.scout.finder.mark(base, &mut round.marks);
+    let far = margin.saturating_sub(1) / 2;
+    round.scout.pace.step(far > 0);
+    if far == 0 {
+        bar(round, base);
     } else {
-        let far = (margin - 1) / 2;
         round.scout.finder.mark_near(base, far, &mut round.marks);
     }
     Ok(())
@@ -187,34 +206,60 @@ fn visit(
     search(round, base, cap, choice)
 }
 
-// What vertices are put into order by: the greatest caps first, those of one cap scattered.
-fn fall_order(caps: &[u64], v: VertexId) -> u128
-    ensures order { result ≡ fall_order caps.now v }
+// What vertices are put into order by: the greatest caps first, those of one cap by their ranks.
+fn fall_order(caps: &[u64], ranks: &[u32], v: VertexId) -> u128
+    ensures order { result ≡ fall_order caps.now ranks.now v }
 {
     let cap = match caps.get(v.index()) {
         Some(cap) => *cap,
         None => 0,
     };
-    (u128::from(u64::MAX - cap) << 32) + u128::from(v.number().reverse_bits())
+    let rank = match ranks.get(v.index()) {
+        Some(rank) => *rank,
+        None => 0,
+    };
+    (u128::from(u64::MAX - cap) << 32) + u128::from(rank)
 }
 
-// Puts vertices into the order of falling caps.
-fn sort_falling(caps: &[u64], vertices: &mut [VertexId])
+// Puts vertices into the order of falling caps, those of one cap into that of their ranks.
+fn sort_falling(caps: &[u64], ranks: &[u32], vertices: &mut [VertexId])
     ensures same { IsPermutation vertices.old vertices.new }
-    ensures sorted { IsNonDecreasingBy (fall_order caps.now) vertices.new }
+    ensures falling { AreFalling caps.now vertices.new }
 {
-    vertices.sort_unstable_by_key(|v| fall_order(caps, *v));
+    vertices.sort_unstable_by_key(|v| fall_order(caps, ranks, *v));
 }
 
-// Lists the vertices whose caps are greater than how far they were searched, in the order of falling
-// caps.
-fn list_rising(alloc: Global, caps: &[u64], reached: &[u64]) -> Result<Vec<VertexId>, NoMemory>
+// Lists the rank of each vertex of a list among those of one cap: its number with the bits
+// reversed, which scatters the vertices. Those with many edges are first, since whoever comes to
+// such a vertex comes to all around it: it pays most to bar them early.
+fn ranks_of(alloc: Global, mesh: &HalfMesh, list: &[VertexId]) -> Result<Vec<u32>, NoMemory>
+    requires inside { All (λ v. v < mesh.now.vertices) list.now }
+{
+    let mut ranks = vec![in alloc; 0u32; mesh.vertices() as usize]?;
+    for k in 0..list.len() {
+        let v = list[k];
+        if mesh.ring_edges(v).len() <= MANY_EDGES {
+            ranks[v.index()] = v.number().reverse_bits();
+        }
+    }
+    Ok(ranks)
+}
+
+// Lists the vertices whose caps are greater than how far they were searched, in the order of
+// falling caps.
+fn list_rising(
+    alloc: Global,
+    mesh: &HalfMesh,
+    caps: &[u64],
+    reached: &[u64],
+) -> Result<Vec<VertexId>, NoMemory>
+    requires vertices { length caps.now ≡ mesh.now.vertices }
     requires count { length reached.now ≡ length caps.now }
     requires few { length caps.now < 2 ^ 32 }
     ensures inside { IfOk result (λ list. All (λ v. v < length caps.now) list.items) }
     ensures rising { IfOk result (λ list. AreRising caps.now reached.now (length caps.now)
         list.items) }
-    ensures falling { IfOk result (λ list. IsNonDecreasingBy (fall_order caps.now) list.items) }
+    ensures falling { IfOk result (λ list. AreFalling caps.now list.items) }
 {
     let mut list = Vec::new(alloc);
     for v in 0..caps.len() {
@@ -224,8 +269,28 @@ fn list_rising(alloc: Global, caps: &[u64], reached: &[u64]) -> Result<Vec<Verte
             list.push(VertexId::new(v as u32))?;
         }
     }
-    sort_falling(caps, &mut list);
+    let ranks = ranks_of(alloc, mesh, &list)?;
+    sort_falling(caps, &ranks, &mut list);
     Ok(list)
+}
+
+// Bars vertex 0 if it was searched without a cap, as it is before all rounds: what is found there
+// is kept already, and no round lists it.
+fn bar_first(round: &mut Round<'_, '_>, reached: &[u64])
+    requires reached { length reached.now ≡ round.old.surface.now.mesh.now.vertices }
+    requires barring { IsBarring (surface_of round.old.surface.now) round.old.scout.finder
+        round.old.marks.items }
+    requires done { AreDone reached.now round.old.marks.items }
+    ensures barring { IsBarring (surface_of round.old.surface.now) round.new.scout.finder
+        round.new.marks.items }
+    ensures done { AreDone reached.now round.new.marks.items }
+    ensures surface { round.new.surface ≡ round.old.surface }
+    ensures least { round.new.least ≡ round.old.least }
+{
+    round.surface.mesh.law_of_surface();
+    if reached[0] == u64::MAX {
+        bar(round, VertexId::new(0));
+    }
 }
 
 // Searches from the vertices of a list, whose caps fall, each as far as its cap.
@@ -237,7 +302,7 @@ fn search_each(
     choice: &mut Choice,
 ) -> Result<(), NoMemory>
     requires vertices { All (λ v. v < round.old.surface.now.mesh.now.vertices) vertices.now }
-    requires falling { IsNonDecreasingBy (fall_order caps.now) vertices.now }
+    requires falling { AreFalling caps.now vertices.now }
     requires caps { length caps.now ≡ round.old.surface.now.mesh.now.vertices }
     requires reached { length reached.old ≡ round.old.surface.now.mesh.now.vertices }
     requires least { (v : ℕ) → v < length reached.old → round.old.least ≤ cap_at reached.old v }
@@ -289,7 +354,7 @@ pub(crate) fn search_rising(
 {
     surface.mesh.law_of_surface();
     surface.lengths.law_of_lengths();
-    let vertices = list_rising(alloc, caps, reached)?;
+    let vertices = list_rising(alloc, surface.mesh, caps, reached)?;
     let scout = Scout {
         finder: Finder::make(alloc, surface)?,
         pace: Pace::new(),
@@ -301,5 +366,6 @@ pub(crate) fn search_rising(
         found: Vec::new(alloc),
         least,
     };
+    bar_first(&mut round, reached);
     search_each(&mut round, &vertices, caps, reached, choice)
 }

@@ -14,6 +14,9 @@ use surf_bits::Signature;
 use surf_cotree::CotreeDesk;
 use surf_near::{Links, NearDesk};
 
+/// How many slots there are for classes of loops.
+pub(crate) const SLOTS: usize = 1024;
+
 /// For each vertex that a search reached the number of a class: the sum of the signatures of the
 /// edges on its way up to the base. Few ways differ in class, so classes are kept once.
 #[derive(Drop)]
@@ -38,7 +41,7 @@ fn number_beyond(
     signatures: &CotreeDesk,
     plain: &[bool],
     edge: EdgeId,
-    hash: u64,
+    hashes: &[u64],
 ) -> Result<u32, NoMemory>
     requires above { above < length classes.old }
     requires few { length classes.old < 2 ^ 32 }
@@ -57,7 +60,7 @@ fn number_beyond(
     }
     let mut class = classes.class(above).copy();
     class.add(signatures.signature(edge));
-    let sum = classes.hash(above) ^ hash;
+    let sum = classes.hash(above) ^ hash_at(hashes, edge);
     classes.number_of(class, sum)
 }
 
@@ -101,8 +104,8 @@ impl Ways {
         if v != base {
             let above = self.numbers[desk.parent(v).index()];
             let up = desk.up(v);
-            let hash = hash_at(&self.hashes, up);
-            number = number_beyond(&mut self.classes, above, signatures, plain, up, hash)?;
+            let hashes = &self.hashes;
+            number = number_beyond(&mut self.classes, above, signatures, plain, up, hashes)?;
         }
         self.numbers[v.index()] = number;
         Ok(())
@@ -137,6 +140,20 @@ impl Ways {
         Ok(())
     }
 
+    /// Where a loop's class may be noted: the loop of an edge and the ways to its two ends. Classes
+    /// that are the same have one slot.
+    pub fn slot(&self, u: VertexId, v: VertexId, edge: EdgeId) -> usize
+        requires first { u < length self.now.numbers }
+        requires second { v < length self.now.numbers }
+        requires numbers { (slice_index self.now.numbers u < length self.now.classes)
+            × (slice_index self.now.numbers v < length self.now.classes) }
+        ensures slot { result < 1024 }
+    {
+        let ways = self.classes.hash(self.numbers[u.index()])
+            ^ self.classes.hash(self.numbers[v.index()]);
+        ((ways ^ hash_at(&self.hashes, edge)) % SLOTS as u64) as usize
+    }
+
     /// The class of a way.
     pub fn class(&self, v: VertexId) -> &Signature
         requires vertex { v < length self.now.numbers }
@@ -155,5 +172,16 @@ impl Ways {
             == slice_index self.now.numbers v) }
     {
         self.numbers[u.index()] == self.numbers[v.index()]
+    }
+
+    /// Whether two ways have the classes of two others. A no may also mean that this wasn't found
+    /// out.
+    pub fn are_pairs_alike(&self, u: VertexId, v: VertexId, low: VertexId, high: VertexId) -> bool
+        requires first { (u < length self.now.numbers) × (v < length self.now.numbers) }
+        requires second { (low < length self.now.numbers) × (high < length self.now.numbers) }
+        ensures alike { IsTrue result → (class_at self.now u ≡ class_at self.now low)
+            × (class_at self.now v ≡ class_at self.now high) }
+    {
+        self.are_alike(u, low) && self.are_alike(v, high)
     }
 }

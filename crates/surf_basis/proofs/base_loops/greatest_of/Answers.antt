@@ -1,4 +1,4 @@
-use Rattle.surf_surfaces.proofs.Common.{◌≤◌, subst, arith, get_or_default}
+use Rattle.surf_basis.proofs.Common.{◌≤◌, subst, arith, get_or_default}
 use Rattle.surf_basis.proofs.base_loops.greatest_of.Goals as goal
 
 pub returns : goal.returns

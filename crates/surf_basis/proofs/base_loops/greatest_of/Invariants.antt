@@ -1,4 +1,4 @@
-use Rattle.surf_surfaces.proofs.Common.{ℕ, ◌<◌, ◌≤◌, slice_index}
+use Rattle.surf_basis.proofs.Common.{ℕ, ◌<◌, ◌≤◌, slice_index}
 use Rattle.surf_basis.proofs.base_loops.greatest_of.Given as goal
 
 abbrev pub invariant-loop-length : goal.invariant-loop-length

@@ -1,4 +1,4 @@
-use Rattle.surf_search.proofs.Common.{ap, Signed}
+use Rattle.surf_basis.proofs.Common.{ap, Signed}
 use Rattle.surf_basis.proofs.Based.{based_more}
 use Rattle.surf_basis.proofs.base_loops.list_based.Goals as goal
 

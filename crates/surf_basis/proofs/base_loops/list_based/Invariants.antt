@@ -1,4 +1,4 @@
-use Rattle.std.proofs.Common.{◌≡◌, map, take}
+use Rattle.surf_basis.proofs.Common.{◌≡◌, map, take}
 use Rattle.surf_basis.specs.Based.{based_at}
 use Rattle.surf_basis.proofs.base_loops.list_based.Given as goal
 

@@ -1,4 +1,4 @@
-use Rattle.surf_search.proofs.Common.{◌≡◌, take, lengths_at}
+use Rattle.surf_basis.proofs.Common.{◌≡◌, take, lengths_at}
 use Rattle.surf_basis.proofs.base_loops.list_lengths.Given as goal
 
 abbrev pub invariant-loop-signed : goal.invariant-loop-signed

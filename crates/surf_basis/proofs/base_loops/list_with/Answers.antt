@@ -1,4 +1,4 @@
-use Rattle.surf_search.proofs.Common.{[], ◌∷◌, ◌++◌, cond, sym, ap, ◌∙◌, append-nil, Signed}
+use Rattle.surf_basis.proofs.Common.{[], ◌∷◌, ◌++◌, cond, sym, ap, ◌∙◌, append-nil, Signed}
 use Rattle.surf_basis.proofs.Based.{with_more}
 use Rattle.surf_basis.proofs.base_loops.list_with.Goals as goal
 use Rattle.surf_basis.proofs.base_loops.list_with.Goals.{then-has_length+in_ok-push, else-has_length}

@@ -1,4 +1,4 @@
-use Rattle.surf_search.proofs.Common.{◌≡◌, filter, take, Signed, has_length}
+use Rattle.surf_basis.proofs.Common.{◌≡◌, filter, take, Signed, has_length}
 use Rattle.surf_basis.proofs.base_loops.list_with.Given as goal
 
 abbrev pub invariant-loop-signed : goal.invariant-loop-signed

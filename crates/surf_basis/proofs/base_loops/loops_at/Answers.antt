@@ -1,7 +1,7 @@
-use Rattle.surf_search.proofs.Common.{◌≡◌, ◌<◌, ◌^◌, List, map, All, Some, sym, ap, ◌∙◌, subst, on_ok_weaker, Candidate, Signed, Chosen, IsNext, AreSigned}
-use Rattle.surf_basis.proofs.Common.{based_at}
+use Rattle.surf_basis.proofs.Common.{based_at, ◌≡◌, ◌<◌, ◌^◌, List, map, All, Some, sym, ap, ◌∙◌, subst, on_ok_weaker, Candidate, Signed, Chosen, IsNext, AreSigned}
 use Rattle.surf_basis.proofs.Based.{based_small, offered_at}
-use Rattle.surf_search.proofs.Searched.{found_small}
+use Rattle.surf_search.specs.declared.told_loops.Ties.TheVariants.{LesserEdge}
+use Rattle.surf_search.proofs.LeftOut.{first_small}
 use Rattle.surf_basis.proofs.base_loops.loops_at.Goals as goal
 
 pub keep_loops-requires : goal.keep_loops-requires
@@ -12,7 +12,7 @@ keep_loops-requires c =
     let width = c.clear.new.self.width in
     let last : Candidate = record { length = c.greatest_of.result; base = c.new.result; edge = c.new-2.result } in
     let wide : width ≡ c.args.least.now.width = ap (λ (k : Chosen). k.width) c.clear.ensures.none in
-    let small = found_small f.mesh f.lengths c.requires.positive.0 c.requires.positive.1 f.signs width
+    let small = first_small LesserEdge f.mesh f.lengths c.requires.positive.0 c.requires.positive.1 f.signs width
     (subst (AreSigned f.mesh f.signs) (sym wide) c.requires.signed) (Some last) z found c.in_ok-find.ensures.found in
     let based = c.in_ok-list_based.ensures.based ∙ ap (λ (ks : List Signed). map (based_at z) ks) c.deref.ensures.value in
     record {

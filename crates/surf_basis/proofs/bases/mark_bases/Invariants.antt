@@ -1,4 +1,4 @@
-use Rattle.surf_search.proofs.Common.{◌≡◌, ◌<◌, ℕ, true, false, length, slice_index_or, Signed}
+use Rattle.surf_basis.proofs.Common.{◌≡◌, ◌<◌, ℕ, true, false, length, slice_index_or, Signed}
 use Rattle.surf_basis.proofs.bases.mark_bases.Given as goal
 
 abbrev pub invariant-loop-signed : goal.invariant-loop-signed

@@ -1,5 +1,4 @@
-use Rattle.surf_search.proofs.Common.{◌≡◌, ◌<◌, ◌≤◌, ◌^◌, ℕ, List, length, All, sym, ap, ◌∙◌, subst, arith, IfOk-weaker, edge_count, IsSurface, ArePositive, AreBases, lengths_positive, Chosen, IsMeasured, SurfaceTables, AreSigned}
-use Rattle.surf_basis.proofs.Common.{AreCyclesOf, AreKeptOver, HasBases, as_loops, IsTheBasis}
+use Rattle.surf_basis.proofs.Common.{AreCyclesOf, AreKeptOver, HasBases, as_loops, IsTheBasis, ◌≡◌, ◌<◌, ◌≤◌, ◌^◌, ℕ, List, length, All, sym, ap, ◌∙◌, subst, arith, IfOk-weaker, edge_count, IsSurface, ArePositive, AreBases, lengths_positive, Chosen, IsMeasured, SurfaceTables, AreSigned}
 use Rattle.surf_basis.proofs.Whole.{all_measured, the_basis}
 use Rattle.surf_basis.proofs.basis.basis_from.Goals as goal
 

@@ -1,5 +1,4 @@
-use Rattle.surf_search.proofs.Common.{◌<◌, All, sym, ◌∙◌, subst, HavePlacesOfBasis}
-use Rattle.surf_search.proofs.Signed.{signs_long}
+use Rattle.surf_basis.proofs.Common.{◌<◌, All, sym, ◌∙◌, subst, HavePlacesOfBasis, signs_long}
 use Rattle.surf_basis.proofs.basis.basis_over.Goals as goal
 
 pub make-requires-clause-signatures : goal.make-requires-clause-signatures

@@ -1,5 +1,5 @@
-use Rattle.surf_search.proofs.Common.{◌≡◌, ◌<◌, ◌≤◌, ◌^◌, ℕ, List, All, length, slice_index, refl, sym, ap, ◌∙◌, subst, arith, get_or_read, merge, edge_count, IsSurface, ArePositive, Signed, Chosen, signed_earlier, independent_of, SurfaceTables, lengths_at, AreSigned}
-use Rattle.surf_basis.proofs.Common.{AreOffered, AreKeptOver}
+use Rattle.surf_basis.proofs.Common.{AreOffered, AreKeptOver, ◌≡◌, ◌<◌, ◌≤◌, ◌^◌, ℕ, List, All, length, slice_index, refl, sym, ap, ◌∙◌, subst, arith, get_or_read, edge_count, IsSurface, ArePositive, Signed, Chosen, signed_earlier, independent_of, SurfaceTables, lengths_at, AreSigned}
+use Rattle.surf_search.proofs.Common.{merge}
 use Rattle.surf_basis.proofs.Based.{offered_small}
 use Rattle.surf_basis.proofs.Kept.{none_kept, kept_more}
 use Rattle.surf_basis.proofs.basis.choose.Goals as goal

@@ -1,4 +1,4 @@
-use Rattle.std.proofs.Common.{◌≡◌}
+use Rattle.surf_basis.proofs.Common.{◌≡◌}
 use Rattle.surf_basis.specs.Kept.{AreKeptOver}
 use Rattle.surf_basis.proofs.basis.choose.Given as goal
 

@@ -1,5 +1,4 @@
-use Rattle.surf_search.proofs.Common.{◌∙◌, ap, subst, IfSome, IfOk-weaker, IsLoopCount, LeastSimpleBasis, lengths_positive, CotreeTables}
-use Rattle.surf_basis.proofs.Common.{first_of, as_loops, IsTheBasis, IsFirstCandidate, IsShortestCycle}
+use Rattle.surf_basis.proofs.Common.{first_of, as_loops, IsTheBasis, IsFirstCandidate, IsShortestCycle, ◌∙◌, ap, subst, IfSome, IfOk-weaker, IsLoopCount, LeastSimpleBasis, lengths_positive, CotreeTables}
 use Rattle.surf_basis.proofs.First.{first_shortest}
 use Rattle.surf_basis.proofs.Leading.{basis_first}
 use Rattle.surf_basis.proofs.Whole.{left_count, least_of, none_basis}

@@ -1,5 +1,4 @@
-use Rattle.surf_search.proofs.Common.{◌≡◌, ◌<◌, subst, arith, lengths_positive}
-use Rattle.surf_basis.proofs.Common.{grown_rooted, AreTreeRowsBelow}
+use Rattle.surf_basis.proofs.Common.{grown_rooted, AreTreeRowsBelow, ◌≡◌, ◌<◌, subst, arith, lengths_positive}
 use Rattle.surf_tree.specs.Grown.{IsGrown}
 use Rattle.surf_basis.proofs.Certified.{rows_more}
 use Rattle.surf_basis.proofs.cert.all_tree_rows.Goals as goal

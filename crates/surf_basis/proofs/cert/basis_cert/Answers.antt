@@ -1,5 +1,4 @@
-use Rattle.surf_search.proofs.Common.{arith, lengths_positive}
-use Rattle.surf_basis.proofs.Common.{numbers_fit, as_loops}
+use Rattle.surf_basis.proofs.Common.{numbers_fit, as_loops, arith, lengths_positive}
 use Rattle.surf_basis.proofs.Certified.{the_cert, valid_cert, fitting_cert}
 use Rattle.surf_basis.proofs.cert.basis_cert.Goals as goal
 

@@ -1,5 +1,4 @@
-use Rattle.surf_search.proofs.Common.{◌<◌, ◌∙◌, map, sym, ap, subst, ends, some_vertex, CotreeTables, cotree_of}
-use Rattle.surf_basis.proofs.Common.{dual_rows_of, IsGreedy}
+use Rattle.surf_basis.proofs.Common.{dual_rows_of, IsGreedy, ◌<◌, ◌∙◌, map, sym, ap, subst, ends, some_vertex, CotreeTables, cotree_of}
 use Rattle.surf_basis.proofs.cert.face_rows.Goals as goal
 
 pub greedy-requires-clause-base : goal.greedy-requires-clause-base

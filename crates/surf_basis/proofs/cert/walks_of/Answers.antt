@@ -1,5 +1,5 @@
-use Rattle.surf_search.proofs.Common.{◌∙◌, sym, rules, map-map, Loop, items_from_collect, YieldsList-from_map, YieldsList-from_vec}
-use Rattle.surf_basis.proofs.Common.{as_loop, Cycle}
+use Rattle.surf_basis.proofs.Common.{as_loop, Cycle, ◌∙◌, sym, rules, map-map, items_from_collect, YieldsList-from_map, YieldsList-from_vec}
+use Rattle.surf_search.proofs.Common.{Loop}
 use Rattle.surf_basis.proofs.cert.walks_of.Goals as goal
 
 pub returns : goal.returns

@@ -1,9 +1,6 @@
-use Rattle.surf_search.proofs.Common.{◌≡◌, ℕ, Bool, List, false, replicate, ◌∙◌, ap, subst, arith, IsTrue, is_marked}
-use Rattle.surf_basis.proofs.Common.{TreeTables, tree_of, HasEnds, IsLeastSet}
-use Rattle.surf_search.proofs.Marked.{written_back}
+use Rattle.surf_basis.proofs.Common.{TreeTables, tree_of, HasEnds, IsLeastSet, ◌≡◌, ℕ, Bool, List, false, replicate, ◌∙◌, ap, subst, arith, IsTrue, is_marked, written_back, none_marked}
 use Rattle.surf_basis.proofs.Ended.{marks_listed, listed_marked}
 use Rattle.surf_basis.proofs.OnCut.{cut_listed}
-use Rattle.surf_search.proofs.PassedOver.{none_marked}
 use Rattle.surf_basis.proofs.cut.cut_vertices.Goals as goal
 
 pub returns-clause-cut : goal.returns-clause-cut

@@ -1,5 +1,4 @@
-use Rattle.surf_search.proofs.Common.{◌≡◌, ◌<◌, ℕ, length, refl, sym, ap, ◌∙◌, subst, arith, true, false, slice_set, slice_index_or, length-set, is_marked}
-use Rattle.surf_basis.proofs.Common.{tree_of}
+use Rattle.surf_basis.proofs.Common.{tree_of, ◌≡◌, ◌<◌, ℕ, length, refl, sym, ap, ◌∙◌, subst, arith, true, false, slice_set, slice_index_or, length-set, is_marked}
 use Rattle.surf_basis.proofs.OnCut.{IsClimbing, GoesOn, steps_left, climb_begun, climb_more, climb_done, climb_falls, goes_up, goes_no_more}
 use Rattle.surf_basis.proofs.cut.mark_way.Goals as goal
 

@@ -1,5 +1,4 @@
-use Rattle.surf_search.proofs.Common.{◌≡◌, length, is_marked}
-use Rattle.surf_basis.proofs.Common.{tree_of}
+use Rattle.surf_basis.proofs.Common.{tree_of, ◌≡◌, length, is_marked}
 use Rattle.surf_basis.proofs.OnCut.{IsClimbing, steps_left}
 use Rattle.surf_basis.proofs.cut.mark_way.Given as goal
 

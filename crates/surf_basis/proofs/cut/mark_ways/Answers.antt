@@ -1,6 +1,4 @@
-use Rattle.surf_search.proofs.Common.{◌≡◌, ◌<◌, ◌≤◌, ℕ, length, sym, ap, ◌∙◌, subst, arith, slice_index, get_or_default, edge_count, ends, is_marked}
-use Rattle.surf_basis.proofs.Common.{tree_of, HasVertex, IsClosedUpward, IsLeastSet}
-use Rattle.surf_search.proofs.Marked.{ends_inside}
+use Rattle.surf_basis.proofs.Common.{tree_of, HasVertex, IsClosedUpward, IsLeastSet, ◌≡◌, ◌<◌, ◌≤◌, ℕ, length, sym, ap, ◌∙◌, subst, arith, slice_index, get_or_default, edge_count, ends, is_marked, ends_inside}
 use Rattle.surf_basis.proofs.OnCut.{ways_begun, ways_more, ways_done}
 use Rattle.surf_basis.proofs.cut.mark_ways.Goals as goal
 

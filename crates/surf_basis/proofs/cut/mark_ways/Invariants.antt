@@ -1,5 +1,4 @@
-use Rattle.surf_search.proofs.Common.{◌≡◌, length, is_marked}
-use Rattle.surf_basis.proofs.Common.{tree_of}
+use Rattle.surf_basis.proofs.Common.{tree_of, ◌≡◌, length, is_marked}
 use Rattle.surf_basis.proofs.OnCut.{AreMarkedSoFar}
 use Rattle.surf_basis.proofs.cut.mark_ways.Given as goal
 

@@ -1,7 +1,5 @@
-use Rattle.surf_search.proofs.Common.{◌≡◌, ℕ, List, Option, Some, None, length, true, inl, sym, ap, ◌∙◌, subst, false≢true, IfOk-weaker, MeetsAll, is_some, CotreeTables, is_among}
-use Rattle.surf_basis.proofs.Common.{AreCutVertices, AreToSearch, AreSignedEnds}
+use Rattle.surf_basis.proofs.Common.{AreSignedEnds, ◌≡◌, ℕ, List, Option, Some, None, length, true, inr, ap, ◌∙◌, subst, false≢true, is_some, CotreeTables, not, signs_long}
 use Rattle.surf_tree.specs.Queues.{AreEven, IsEvenness}
-use Rattle.surf_search.proofs.Signed.{signs_long}
 use Rattle.surf_basis.proofs.Meeting.{ends_meet, cut_meets}
 use Rattle.surf_basis.proofs.cut.searched_vertices.Goals as goal
 
@@ -18,25 +16,24 @@ signed_ends-requires c =
       table = ap (λ (t : CotreeTables). length t.signatures) c.cotree.ensures.cotree ∙ signs_long c.args.mesh.now c.args.desk.now.cotree count signed;
     }
 
-pub returns-then-is_some-clause-which : goal.returns-then-is_some-clause-which
-returns-then-is_some-clause-which c =
-    let mesh = c.args.mesh.now in
-    let lengths = c.args.lengths.now in
-    let (size, even) = one_length lengths c.even_length.result (sym c.is_some.ensures ∙ c.if-is_some.true) c.even_length.ensures.even in
-    IfOk-weaker c.signed_ends.result (λ list. AreSignedEnds mesh c.cotree.result.now list.items) (λ list. AreToSearch mesh lengths c.args.desk.now list.items)
-    (λ list ends. inl (size, even, subst (λ (t : CotreeTables). AreSignedEnds mesh t list.items) c.cotree.ensures.cotree ends)) c.signed_ends.ensures.ends
+pub returns-then-is_none-clause-met : goal.returns-then-is_none-clause-met
+returns-then-is_none-clause-met c =
+    cut_meets c.args.mesh.now c.law_of_surface.ensures.surface c.args.desk.now c.requires.divided c.in_ok-cut.cut.items c.in_ok-cut.ensures.cut
 
-pub returns-then-is_some-clause-met : goal.returns-then-is_some-clause-met
-returns-then-is_some-clause-met c =
+pub returns-then-len-clause-which : goal.returns-then-len-clause-which
+returns-then-len-clause-which c =
+    let list = c.in_ok-ends.ends.items in
+    let (size, even) = one_length c.args.lengths.now c.even_length.result (c.is_none.ensures ∙ ap not c.if-is_none.false) c.even_length.ensures.even in
+    inr (size, even, subst (λ (t : CotreeTables). AreSignedEnds c.args.mesh.now t list) c.cotree.ensures.cotree c.in_ok-ends.ensures.ends)
+
+pub returns-then-len-clause-met : goal.returns-then-len-clause-met
+returns-then-len-clause-met c =
     let mesh = c.args.mesh.now in
-    let t = c.args.desk.now.cotree in
+    let list = c.in_ok-ends.ends.items in
     let (count, signed) = c.requires.signed in
-    IfOk-weaker c.signed_ends.result (λ list. AreSignedEnds mesh c.cotree.result.now list.items) (λ list. MeetsAll mesh (is_among list.items))
-    (λ list ends. ends_meet mesh c.law_of_surface.ensures.surface t count signed list.items
-    (subst (λ (t : CotreeTables). AreSignedEnds mesh t list.items) c.cotree.ensures.cotree ends).each) c.signed_ends.ensures.ends
+    ends_meet mesh c.law_of_surface.ensures.surface c.args.desk.now.cotree count signed list
+    (subst (λ (t : CotreeTables). AreSignedEnds mesh t list) c.cotree.ensures.cotree c.in_ok-ends.ensures.ends).each
 
 pub returns-clause-met : goal.returns-clause-met
 returns-clause-met c =
-    let mesh = c.args.mesh.now in
-    IfOk-weaker c.cut_vertices.result (λ list. AreCutVertices mesh c.args.desk.now list.items) (λ list. MeetsAll mesh (is_among list.items))
-    (λ list cut. cut_meets mesh c.law_of_surface.ensures.surface c.args.desk.now c.requires.divided list.items cut) c.cut_vertices.ensures.cut
+    cut_meets c.args.mesh.now c.law_of_surface.ensures.surface c.args.desk.now c.requires.divided c.in_ok-cut.cut.items c.in_ok-cut.ensures.cut

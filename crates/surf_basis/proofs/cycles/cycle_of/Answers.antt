@@ -1,5 +1,5 @@
-use Rattle.surf_search.proofs.Common.{refl, sym, ◌∙◌, Trees, AreChosenAt, heaviest_exists, shortest_is_tree, lengths_positive}
-use Rattle.surf_basis.proofs.Common.{tree_of, grown_rooted}
+use Rattle.surf_basis.proofs.Common.{tree_of, grown_rooted, refl, sym, ◌∙◌, AreChosenAt, heaviest_exists, shortest_is_tree, lengths_positive}
+use Rattle.surf_search.proofs.Common.{Trees}
 use Rattle.surf_basis.proofs.Looped.{loop_is_one}
 use Rattle.surf_basis.proofs.cycles.cycle_of.Goals as goal
 

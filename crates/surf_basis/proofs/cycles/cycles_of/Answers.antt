@@ -1,4 +1,4 @@
-use Rattle.surf_surfaces.proofs.Common.{IfOk-weaker, ◌≡◌, sym, subst}
+use Rattle.surf_basis.proofs.Common.{IfOk-weaker, ◌≡◌, sym, subst}
 use Rattle.surf_basis.specs.Candidates.{AreCyclesOf, cycles_with}
 use Rattle.surf_basis.proofs.Kept.{cycles_are}
 use Rattle.surf_basis.proofs.cycles.cycles_of.Goals as goal

@@ -1,5 +1,4 @@
-use Rattle.surf_search.proofs.Common.{rules, items_from_collect, YieldsList-from_map, YieldsList-from_slice, YieldsList-from_zip, YieldsList-from_vec}
-use Rattle.surf_basis.proofs.Common.{cycle_with}
+use Rattle.surf_basis.proofs.Common.{cycle_with, rules, items_from_collect, YieldsList-from_map, YieldsList-from_slice, YieldsList-from_zip, YieldsList-from_vec}
 use Rattle.std.proofs.lemmas.Iterator.Consumers.{YieldsList-at}
 use Rattle.surf_basis.proofs.cycles.cycles_with.Goals as goal
 

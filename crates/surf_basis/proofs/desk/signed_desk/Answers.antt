@@ -1,5 +1,4 @@
-use Rattle.surf_search.proofs.Common.{◌<◌, length, refl, sym, ap, subst, IsLoopCount, some_vertex}
-use Rattle.surf_basis.proofs.Common.{LoopTables}
+use Rattle.surf_basis.proofs.Common.{LoopTables, ◌<◌, length, refl, sym, ap, subst, IsLoopCount, some_vertex}
 use Rattle.surf_basis.proofs.OnCut.{desk_divided}
 use Rattle.surf_basis.proofs.Whole.{left_full, desk_signed}
 use Rattle.surf_basis.proofs.desk.signed_desk.Goals as goal

@@ -1,6 +1,5 @@
-use Rattle.surf_search.proofs.Common.{ℕ, ◌≡◌, ◌≢◌, ◌<◌, true, false, slice_index, sym, ap, ◌∙◌, subst, arith, inl, inr, ◌⊎◌, slice_index_or, cases_lt, nat_tests, ends, edge_count, by_degree}
+use Rattle.surf_basis.proofs.Common.{ℕ, ◌≡◌, ◌≢◌, ◌<◌, true, false, slice_index, sym, ap, ◌∙◌, subst, arith, inl, inr, ◌⊎◌, slice_index_or, cases_lt, nat_tests, ends, edge_count, by_degree, ends_inside, either_below}
 use Rattle.surf_basis.proofs.Ended.{end_stays, either_marked}
-use Rattle.surf_search.proofs.Marked.{ends_inside, either_below}
 use Rattle.surf_search.proofs.Counted.{as_read_or_turned}
 use Rattle.surf_basis.proofs.ends.mark_ends.Goals as goal
 use Rattle.surf_basis.proofs.ends.mark_ends.Goals.{then-not-is_empty, else-not-is_empty}

@@ -1,4 +1,4 @@
-use Rattle.surf_surfaces.proofs.Common.{◌≡◌, ◌≢◌, ◌<◌, ℕ, true, false, length, slice_index, ◌⊎◌, slice_index_or}
+use Rattle.surf_basis.proofs.Common.{◌≡◌, ◌≢◌, ◌<◌, ℕ, true, false, length, slice_index, ◌⊎◌, slice_index_or}
 use Rattle.surf_basis.specs.Ends.{HasMarkedEnd, IsBusierEnd}
 use Rattle.surf_basis.proofs.ends.mark_ends.Given as goal
 

@@ -1,8 +1,5 @@
-use Rattle.surf_search.proofs.Common.{◌≡◌, ℕ, Bool, List, false, replicate, sym, ap, ◌∙◌, subst, inl, inr, arith, IsTrue, slice_index, get_or-replicate, edge_count, AreDegreesTo, degree_in, is_signed, is_marked}
-use Rattle.surf_basis.proofs.Common.{IsBusierEnd}
-use Rattle.surf_search.proofs.Marked.{written_back}
+use Rattle.surf_basis.proofs.Common.{IsBusierEnd, ◌≡◌, ℕ, Bool, List, false, replicate, sym, ap, ◌∙◌, subst, inl, inr, arith, IsTrue, slice_index, get_or-replicate, edge_count, AreDegreesTo, degree_in, is_signed, is_marked, written_back, none_marked}
 use Rattle.surf_basis.proofs.Ended.{each_listed, ends_listed, busier_by_table}
-use Rattle.surf_search.proofs.PassedOver.{none_marked}
 use Rattle.surf_basis.proofs.ends.signed_ends.Goals as goal
 
 pub count_signed-requires-clause-none : goal.count_signed-requires-clause-none

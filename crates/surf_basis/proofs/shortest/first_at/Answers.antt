@@ -1,5 +1,4 @@
-use Rattle.surf_search.proofs.Common.{ap, ◌∙◌, option_map, lengths_positive}
-use Rattle.surf_basis.proofs.Common.{loop_in}
+use Rattle.surf_basis.proofs.Common.{loop_in, ap, ◌∙◌, option_map, lengths_positive}
 use Rattle.surf_basis.proofs.First.{first_heads}
 use Rattle.surf_basis.proofs.shortest.first_at.Goals as goal
 

@@ -1,5 +1,4 @@
-use Rattle.surf_search.proofs.Common.{sym, ap, ◌∙◌, subst, lengths_positive}
-use Rattle.surf_basis.proofs.Common.{first_of, IsFirstPlace}
+use Rattle.surf_basis.proofs.Common.{first_of, IsFirstPlace, sym, ap, ◌∙◌, subst, lengths_positive}
 use Rattle.surf_basis.proofs.Placed.{place_inside}
 use Rattle.surf_basis.proofs.shortest.first_candidate.Goals as goal
 

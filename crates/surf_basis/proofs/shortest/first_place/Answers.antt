@@ -1,5 +1,4 @@
-use Rattle.surf_search.proofs.Common.{IfOk-weaker, lengths_positive, IsFirstAmong}
-use Rattle.surf_basis.proofs.Common.{IsFirstPlace}
+use Rattle.surf_basis.proofs.Common.{IsFirstPlace, IfOk-weaker, lengths_positive, IsFirstAmong}
 use Rattle.surf_basis.proofs.Placed.{first_placed}
 use Rattle.surf_basis.proofs.shortest.first_place.Goals as goal
 

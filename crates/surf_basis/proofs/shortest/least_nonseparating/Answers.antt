@@ -1,4 +1,4 @@
-use Rattle.surf_search.proofs.Common.{Some, None, refl, subst, lengths_positive}
+use Rattle.surf_basis.proofs.Common.{Some, None, refl, subst, lengths_positive}
 use Rattle.surf_basis.proofs.First.{IsFound, found_inside, found_first, first_shortest, none_found, some_found}
 use Rattle.surf_basis.proofs.shortest.least_nonseparating.Goals as goal
 

@@ -1,4 +1,4 @@
-use Rattle.surf_search.proofs.Common.{◌≡◌, ℕ, ◌<◌, ◌++◌, ◌∷◌, [], List, All, length, sym, ap, ◌∙◌, subst, arith, All-permutation, All-push, IsNonDecreasingBy, AreRising, fall_order}
+use Rattle.surf_search.proofs.Common.{◌≡◌, ℕ, ◌<◌, ◌++◌, ◌∷◌, [], List, All, length, length-append, sym, ap, ◌∙◌, subst, arith, All-permutation, All-push, AreFalling, AreRising}
 use Rattle.surf_search.proofs.Capping.{rising_same, rising_more, rising_permuted}
 use Rattle.surf_search.proofs.Marked.{written_back}
 use Rattle.surf_search.proofs.round.list_rising.Goals as goal
@@ -17,10 +17,13 @@ loop-v-preserved c =
           rw w.list-is (record {
             inside = subst (λ (xs : List ℕ). All (λ u. u < length caps) xs) (sym is)
                 (All-push (λ u. u < length caps) old c.loop-v.v c.loop-v.invariant.inside v_in);
+            few = (let n = length-append old (c.loop-v.v ∷ []) in let m = ap (λ (xs : List ℕ). length xs) is in
+                let le = c.loop-v.invariant.few in omega (arith, n, m, le));
             rising = rising_more caps reached c.loop-v.v old w.push.new.self.items c.loop-v.invariant.rising is;
           })
       | else-far-cap w ↦ rw w.list-is (record {
         inside = c.loop-v.invariant.inside;
+        few = (let le = c.loop-v.invariant.few in omega (arith, le));
         rising = rising_same caps reached c.loop-v.v old c.loop-v.invariant.rising w.if-far-cap.false;
       })
     ]
@@ -47,6 +50,5 @@ returns-clause-rising c =
 
 pub returns-clause-falling : goal.returns-clause-falling
 returns-clause-falling c =
-    let caps = c.args.caps.now in
     let last = written_back c.sort_falling.new.vertices _ _ (omega (arith, c.sort_falling.auto.vertices, c.deref_mut.ensures.len)) in
-    subst (λ (xs : List ℕ). IsNonDecreasingBy (fall_order caps) xs) (sym last) c.sort_falling.ensures.sorted
+    subst (λ (xs : List ℕ). AreFalling c.args.caps.now xs) (sym last) c.sort_falling.ensures.falling

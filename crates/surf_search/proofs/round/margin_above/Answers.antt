@@ -1,4 +1,4 @@
-use Rattle.surf_search.proofs.Common.{◌≡◌, ◌<◌, ℕ, take, take_all, inl, inr, subst, arith, IsSumOfLength, AreLongerOr}
+use Rattle.surf_search.proofs.Common.{take_all, inl, inr, subst, arith, IsSumOfLength, AreLongerOr}
 use Rattle.surf_search.proofs.Capped.{longer_more}
 use Rattle.surf_search.proofs.round.margin_above.Goals as goal
 use Rattle.surf_search.proofs.round.margin_above.Goals.{then-sum-least, else-sum-least}

@@ -1,4 +1,4 @@
-use Rattle.surf_search.proofs.Common.{◌≡◌, ◌≢◌, ◌≤◌, ℕ, take, AreLongerOr}
+use Rattle.surf_search.proofs.Common.{◌≢◌, ◌≤◌, take, AreLongerOr}
 use Rattle.surf_search.proofs.round.margin_above.Given as goal
 
 abbrev pub invariant-loop-signed : goal.invariant-loop-signed

@@ -1,11 +1,7 @@
-use Rattle.surf_search.proofs.Common.{rules, w64, ◌≡◌, ◌<◌, ◌≤◌, ◌^◌, ℕ, get_or, set, max, length, length-set, refl, sym, ap, ◌∙◌, subst, arith, inl, inr, cases_lt, get_or_default, IsTrue, or_left, ◌&&◌, SurfaceTables, surface_of, is_marked, AreKeptUpTo, IsBarring, KeepsInRound, cap_at, fall_order, in_caps, in_round, is_within_cap}
-use Rattle.std.proofs.Common.{Fits}
+use Rattle.surf_search.proofs.Common.{◌≡◌, ◌<◌, ◌≤◌, ℕ, get_or, set, length-set, sym, ap, ◌∙◌, subst, arith, inl, inr, cases_lt, get_or_default, or_left, ◌&&◌, surface_of, is_marked, IsBarring, KeepsInRound, cap_at, in_caps, in_round, is_within_cap}
 use Rattle.surf_search.proofs.Capping.{no_less_on}
-use Rattle.surf_search.proofs.Rounded.{IsRaisedAt, caps_fall, raised_at, round_fewer, visited_caps}
+use Rattle.surf_search.proofs.Rounded.{IsRaisedAt, raised_at, round_fewer, visited_caps}
 use Rattle.surf_search.proofs.round.search_each.Goals as goal
-
-fits : (n : ℕ) → Fits w64 n → n < 2 ^ 64
-fits n h = search rules
 
 pub loop-v-preserved : goal.loop-v-preserved
 loop-v-preserved c =
@@ -52,10 +48,7 @@ loop-v-preserved c =
       kept = λ bound low.
           (let le : bound ≤ cap = (let a = low i 0 (omega arith) in let b = ap (cap_at caps) (at_index 0) in omega (arith, a, b, here)) in
           let fall : (k d : ℕ) → k < i → cap ≤ cap_at caps (get_or vs k d) =
-          λ k d l. (let order = c.requires.falling k i d (omega (arith, l)) c.loop-v-test.true in
-          let a = fits (cap_at caps (get_or vs k d)) (c.type_inv.caps (get_or vs k d)) in
-          let b = fits (cap_at caps (get_or vs i d)) (c.type_inv.caps (get_or vs i d)) in
-          let falls = caps_fall caps (get_or vs k d) (get_or vs i d) a b order in
+          λ k d l. (let falls = c.requires.falling k i d (omega (arith, l)) c.loop-v-test.true in
           let e = ap (cap_at caps) (at_index d) in
           omega (arith, falls, e, here)) in
           let up : (u : ℕ) → u < f.mesh.vertices → c.args.round.now.least ≤ cap_at reached u =

@@ -1,4 +1,5 @@
-use Rattle.surf_search.proofs.Common.{◌≡◌, ◌<◌, ◌≤◌, ℕ, All, Bool, false, List, replicate, sym, ap, ◌∙◌, subst, inl, inr, arith, All-contains, on_ok_weaker, IsTrue, IsNonDecreasingBy, lengths_positive, surface_of, is_marked, cap_at, fall_order}
+use Rattle.surf_search.proofs.Common.{◌≤◌, ℕ, All, Bool, List, sym, subst, inl, inr, arith, All-contains, on_ok_weaker, IsTrue, AreFalling, lengths_positive, surface_of, is_marked, AreKeptUpTo, cap_at, in_caps, in_round}
+use Rattle.std.specs.Prelude.{OnOk}
 use Rattle.surf_search.proofs.PassedOver.{none_marked}
 use Rattle.surf_search.proofs.Rounded.{round_begun}
 use Rattle.surf_search.proofs.Signed.{signs_long}
@@ -8,17 +9,27 @@ pub make-requires-clause-signatures : goal.make-requires-clause-signatures
 make-requires-clause-signatures c =
     signs_long c.args.surface.now.mesh.now c.args.surface.now.signatures.now c.args.choice.now.width c.requires.signed
 
+pub bar_first-requires-clause-done : goal.bar_first-requires-clause-done
+bar_first-requires-clause-done c v on =
+    let is = c.in_ok-vec.ensures.items_if_clones_equal (λ y same. same) in
+    absurd (none_marked _ v (subst (λ (ms : List Bool). IsTrue (is_marked ms v)) is on))
+
 pub search_each-requires-clause-falling : goal.search_each-requires-clause-falling
 search_each-requires-clause-falling c =
-    subst (λ (xs : List ℕ). IsNonDecreasingBy (fall_order c.args.caps.now) xs) (sym c.deref.ensures.value) c.in_ok-vertices.ensures.falling
+    subst (λ (xs : List ℕ). AreFalling c.args.caps.now xs) (sym c.deref.ensures.value) c.in_ok-vertices.ensures.falling
 
 pub search_each-requires-clause-kept : goal.search_each-requires-clause-kept
 search_each-requires-clause-kept c =
     let f = surface_of c.args.surface.now in
-    let is = c.in_ok-vec.ensures.items_if_clones_equal (λ y same. same) in
-    round_begun f c.args.reached.now c.args.choice.now c.in_ok-vec.field-0.items
-    (λ v on. none_marked _ v (subst (λ (ms : List Bool). IsTrue (is_marked ms v)) is on))
-    c.law_of_surface.ensures.surface (lengths_positive f.mesh f.lengths c.law_of_lengths.ensures.lengths c.requires.lengths) c.requires.kept
+    subst (λ s. (bound : ℕ) → AreKeptUpTo (surface_of s.now) (in_round c.args.reached.now c.bar_first.new.round.marks.items bound)
+    c.args.choice.now) (sym c.bar_first.ensures.surface)
+    (round_begun f c.args.reached.now c.args.choice.now c.bar_first.new.round.marks.items c.bar_first.ensures.done
+    c.law_of_surface.ensures.surface (lengths_positive f.mesh f.lengths c.law_of_lengths.ensures.lengths c.requires.lengths) c.requires.kept)
+
+pub returns-clause-kept : goal.returns-clause-kept
+returns-clause-kept c =
+    subst (λ s. OnOk c.search_each.result (AreKeptUpTo (surface_of s.now) (in_caps c.search_each.new.reached) c.search_each.new.choice))
+    c.bar_first.ensures.surface c.search_each.ensures.kept
 
 pub returns-clause-each : goal.returns-clause-each
 returns-clause-each c =

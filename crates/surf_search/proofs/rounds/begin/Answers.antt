@@ -1,4 +1,4 @@
-use Rattle.surf_search.proofs.Common.{◌≡◌, ℕ, ◌<◌, ◌≤◌, Option, sym, subst, arith, refl, Candidate, limit_of, IsCapped, IsKeptAt}
+use Rattle.surf_search.proofs.Common.{Option, subst, arith, Candidate, limit_of, IsKeptAt}
 use Rattle.surf_search.proofs.Rounded.{begun_at}
 use Rattle.surf_search.proofs.Capping.{capped_all}
 use Rattle.surf_search.proofs.rounds.begin.Goals as goal

@@ -1,4 +1,4 @@
-use Rattle.surf_search.proofs.Common.{◌<◌, All, sym, subst, arith, IsLoopCount, lengths_positive, surface_of, AreSigned}
+use Rattle.surf_search.proofs.Common.{sym, subst, arith, IsLoopCount, lengths_positive, surface_of}
 use Rattle.surf_search.proofs.Rounded.{round_inside, round_places}
 use Rattle.surf_search.proofs.rounds.run_rounds.Goals as goal
 

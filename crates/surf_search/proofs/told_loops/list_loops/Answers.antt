@@ -14,7 +14,7 @@ loop-v-preserved c =
     let it = item_settled c.settled-v-items.result.now c.args.reached.now.desk.now.settled c.loop-v.v-index c.v-item.result c.settled-v-items.ensures.settled c.loop-v-test.true c.v-item.is in
     record {
       each = c.in_ok-list_at.ensures.each;
-      all = lists_more x c.args.limit.now c.args.reached.now.desk.now.settled c.loop-v.v-index c.v-item.result c.loop-v.found.items c.list_at.new.found.items c.loop-v.invariant.all
+      all = lists_more c.args.reached.now.ties x c.args.limit.now c.args.reached.now.desk.now.settled c.loop-v.v-index c.v-item.result c.loop-v.found.items c.list_at.new.found.items c.loop-v.invariant.all
           c.in_ok-list_at.ensures.kept c.in_ok-list_at.ensures.here it.1;
     }
 

@@ -1,5 +1,5 @@
-use Rattle.surf_search.proofs.Common.{◌<◌, sym, subst, SurfaceTables, search_of, AreTold, IsFirstAt}
-use Rattle.surf_search.proofs.Told.{links_positive, told_are_found}
+use Rattle.surf_search.proofs.Common.{◌<◌, sym, subst, SurfaceTables, search_of, IsFirstAt}
+use Rattle.surf_search.proofs.Told.{AreTold, links_positive, told_are_found}
 use Rattle.surf_search.proofs.finder.Finder.first_loop.Goals as goal
 
 pub returns-clause-first : goal.returns-clause-first
