@@ -17,11 +17,12 @@ use Rattle.surf_tree.specs.Queues.{AreUpTo, IsEvenness}
 use Rattle.surf_near.specs.declared.links.Link.{Link}
 use Rattle.surf_near.specs.declared.sizes.Sizes.{Sizes}
 
--- a mesh with its lengths, and the links of each vertex
+-- a mesh with its lengths, the links of each vertex, and the lengths before any vertex was barred
 pub record LinkTables : Type 0 where
   pub mesh : Mesh
   pub lengths : List ℕ
   pub rows : List (List Link)
+  pub given : List ℕ
 
 -- the graph of the vertices and edges, and the length of each edge
 abbrev pub graph_of : LinkTables → Graph

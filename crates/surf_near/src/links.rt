@@ -1,6 +1,6 @@
 //! The links of each vertex, side by side.
 ghost use Rattle.std.specs.Prelude.{◌≡◌, ◌<◌, ◌≤◌, ℕ, ◌⊎◌, true, false, length};
-ghost use Rattle.std.specs.Prelude.{All, IfOk, OnOk, MatchOption, ⊤};
+ghost use Rattle.std.specs.Prelude.{All, IfOk, OnOk, MatchOption, ⊤, ◌||◌, slice_index_or};
 ghost use Rattle.surf_surfaces.specs.Mesh.{IsMesh};
 ghost use Rattle.surf_surfaces.specs.Surface.{edge_count};
 ghost use Rattle.surf_surfaces.specs.Walk.{edge_length};
@@ -35,7 +35,7 @@ pub(crate) struct Around<'l> {
 }
 
 /// The links of each vertex of a mesh, whose edges have lengths. Vertices may be barred: each edge
-/// at one of them then has the greatest length that there is.
+/// at one of them then has the greatest length that there is, until no vertex is barred any more.
 #[derive(Drop)]
 pub struct Links<'m> {
     mesh: &'m HalfMesh,
@@ -56,6 +56,7 @@ impl<'m> Model for Links<'m> {
       mesh = l.mesh.now;
       lengths = barred_lengths l.mesh.now l.barred.items l.lengths.now;
       rows = l.rows;
+      given = l.lengths.now;
     } };
 
     ghost invariant = { λ l.
@@ -100,6 +101,17 @@ pub(crate) fn length_past(barred: &[bool], shut: bool, link: &Link) -> u32
     }
 }
 
+// Whether one of two vertices is barred.
+#[inline]
+fn is_either_barred(barred: &[bool], low: VertexId, high: VertexId) -> bool
+    requires low { low < length barred.now }
+    requires high { high < length barred.now }
+    ensures either { result
+        ≡ (slice_index_or barred.now low false || slice_index_or barred.now high false) }
+{
+    barred[low.index()] || barred[high.index()]
+}
+
 // Whether each barred edge leads past a radius, if there is one at all.
 fn is_past_bars(barring: bool, radius: u64) -> bool
     ensures past { result ≡ true → (radius < longest) ⊎ (barring ≡ false) }
@@ -118,6 +130,7 @@ impl<'m> Links<'m> {
         requires lengths { length lengths.now ≡ edge_count mesh.now }
         ensures mesh { IfOk result (λ links. links.mesh ≡ mesh.now) }
         ensures lengths { IfOk result (λ links. links.lengths ≡ lengths.now) }
+        ensures given { IfOk result (λ links. links.given ≡ lengths.now) }
     {
         let links = Vec::with_capacity(alloc, 2 * mesh.edges() as usize)?;
         let ends = Vec::with_capacity(alloc, mesh.vertices() as usize)?;
@@ -147,11 +160,23 @@ impl<'m> Links<'m> {
         requires vertex { v < self.old.mesh.vertices }
         ensures mesh { self.new.mesh ≡ self.old.mesh }
         ensures rows { self.new.rows ≡ self.old.rows }
+        ensures given { self.new.given ≡ self.old.given }
         ensures off { KeepsOff self.new.mesh v self.old.lengths self.new.lengths }
         ensures shut { IsShutAt self.new.mesh v self.new.lengths }
     {
         self.barred[v.index()] = true;
         self.barring = true;
+    }
+
+    /// Lets no vertex be barred any more: each edge has its given length again. It takes no memory.
+    pub fn unbar(&mut self)
+        ensures mesh { self.new.mesh ≡ self.old.mesh }
+        ensures rows { self.new.rows ≡ self.old.rows }
+        ensures given { self.new.given ≡ self.old.given }
+        ensures lengths { self.new.lengths ≡ self.old.given }
+    {
+        self.barred.fill(false);
+        self.barring = false;
     }
 
     /// What all links of this type keep. A caller whose proof rests on that calls it; it does
@@ -226,5 +251,19 @@ impl<'m> Links<'m> {
         ensures length { result ≡ edge_length self.now.lengths link.now.edge }
     {
         length_past(&self.barred, self.barred[v.index()], link)
+    }
+
+    /// The length of an edge: the greatest that there is, if an end of it is barred.
+    #[inline]
+    pub fn length_of(&self, e: EdgeId) -> u32
+        requires edge { e < edge_count self.now.mesh }
+        ensures length { result ≡ edge_length self.now.lengths e }
+    {
+        let (low, high) = self.mesh.ends(e);
+        if is_either_barred(&self.barred, low, high) {
+            u32::MAX
+        } else {
+            self.lengths.of(e)
+        }
     }
 }

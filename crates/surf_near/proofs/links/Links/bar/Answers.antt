@@ -13,6 +13,7 @@ returns c =
     rw (c.index.ensures, ← c.self.view_is) (record {
       mesh = refl;
       rows = refl;
+      given = refl;
       off = bar_keeps mesh given barred c.args.v here kept.links.as_many;
       shut = bar_shuts mesh given barred c.args.v here kept.links.as_many;
     })
