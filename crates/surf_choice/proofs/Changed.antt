@@ -1,7 +1,7 @@
 -- Where the choice changes when others are offered to those kept.
-use Rattle.surf_choice.proofs.Common.{◌≡◌, ℕ, zero, suc, ◌+◌, ◌-◌, ◌<◌, ◌≤◌, true, false, List, [], ◌∷◌, ◌++◌, length, get_or, take, drop, All, refl, sym, ap, ◌∙◌, subst, arith, inl, inr, append_assoc, cases_lt, cases_Bool, AllByRecursion, recursion_from_All, All-from_recursion, numbers, is_nothing, Bool, Spanned, Decides-is_nothing, in_from_spanned, length-map, append-nil, drop_more, at_drop_all, take_more, take-append-drop, take-map, get_or-drop, length-drop, get_or-take, length-take, take_all, greedy_after, spans, Signed, signed_earlier, has_next, independent_of, candidates, signatures, kept_after, IsChange, AreRowsOf}
+use Rattle.surf_choice.proofs.Common.{◌≡◌, ℕ, zero, suc, ◌+◌, ◌-◌, ◌<◌, ◌≤◌, true, false, List, [], ◌∷◌, ◌++◌, length, get_or, take, drop, All, refl, sym, ap, ◌∙◌, subst, arith, inl, inr, append_assoc, cases_lt, cases_Bool, AllByRecursion, recursion_from_All, All-from_recursion, numbers, is_nothing, Spanned, Decides-is_nothing, in_from_spanned, length-map, append-nil, drop_more, at_drop_all, take_more, take-append-drop, take-map, get_or-drop, length-drop, get_or-take, length-take, take_all, greedy_after, spans, Signed, signed_earlier, earlier, has_next, independent_of, candidates, signatures, kept_after, IsChange, AreRowsOf}
 use Rattle.surf_surfaces.proofs.Common.{merge, not_spans}
-use Rattle.std.proofs.lemmas.List.{drop-map}
+use Rattle.std.proofs.lemmas.List.{get_or-map}
 use Rattle.surf_choice.specs.declared.candidate.Candidate.{Candidate}
 use Rattle.surf_choice.proofs.Fronts.{AreFreshAfter, front_spanned}
 use Rattle.surf_choice.proofs.Sifted.{kept_turn, kept_over}
@@ -87,6 +87,49 @@ pass_kept kept offered place fresh p free h =
           ∙ p.rest;
     }
 
+-- by the keys of those kept, one of these is next where its key comes before
+next_by_key : (kept offered : List Signed) (place fresh : ℕ) (d : Signed) → place < length kept → fresh < length offered →
+    d ≡ get_or offered fresh d →
+    has_next (drop place kept) (drop fresh offered) ≡ earlier (get_or (candidates kept) place d.candidate) d.candidate
+next_by_key kept offered place fresh d k_in d_in same =
+    ap (λ xs. has_next xs (drop fresh offered)) (drop_more kept place d k_in)
+    ∙ ap (has_next (get_or kept place d ∷ drop (place + 1) kept)) (drop_more offered fresh d d_in ∙ ap (λ x. x ∷ drop (fresh + 1) offered) (sym same))
+    ∙ ap (λ (c : Candidate). earlier c d.candidate) (sym (get_or-map (λ (c : Signed). c.candidate) kept place d d.candidate k_in))
+
+-- so many of those kept come before one that was offered
+pass_front : (kept offered : List Signed) (place fresh count : ℕ) (d : Signed) → IsPassing kept offered place fresh →
+    AreFreshAfter [] (signatures kept) → fresh < length offered → d ≡ get_or offered fresh d → place + count ≤ length kept →
+    ((k : ℕ) → place ≤ k → k < place + count → earlier (get_or (candidates kept) k d.candidate) d.candidate ≡ true) →
+    IsPassing kept offered (place + count) fresh
+pass_front kept offered place fresh zero d p free d_in same le before =
+    subst (λ n. IsPassing kept offered n fresh) (omega arith) p
+pass_front kept offered place fresh (suc count) d p free d_in same le before =
+    let at : place + count + 1 ≡ place + suc count = omega arith in
+    let k_in : place + count < length kept = omega (arith, le) in
+    subst (λ n. IsPassing kept offered n fresh) at (pass_kept kept offered (place + count) fresh
+    (pass_front kept offered place fresh count d p free d_in same (omega (arith, le)) (λ k l m. before k l (omega (arith, m)))) free
+    (next_by_key kept offered (place + count) fresh d k_in d_in same ∙ before (place + count) (omega arith) (omega arith)))
+
+-- keys are passed as long as they come before one that was offered, which then is next
+pub pass_keys : (kept offered : List Signed) (keys : List Candidate) (from place fresh : ℕ) (d : Signed) →
+    IsPassing kept offered from fresh → AreFreshAfter [] (signatures kept) → keys ≡ candidates kept →
+    fresh < length offered → d ≡ get_or offered fresh d → from ≤ place → place ≤ length keys →
+    ((k : ℕ) → from ≤ k → k < place → earlier (get_or keys k d.candidate) d.candidate ≡ true) →
+    (place < length keys → earlier (get_or keys place d.candidate) d.candidate ≡ false) →
+    IsPassing kept offered place fresh × (has_next (drop place kept) (drop fresh offered) ≡ false)
+pass_keys kept offered keys from place fresh d p free are d_in same le place_in before next =
+    let many : length keys ≡ length kept = ap (λ (xs : List Candidate). length xs) are ∙ length-map kept (λ (c : Signed). c.candidate) in
+    let at : from + (place - from) ≡ place = omega (arith, le) in (
+      subst (λ n. IsPassing kept offered n fresh) at (pass_front kept offered from fresh (place - from) d p free d_in same
+          (omega (arith, at, many, place_in)) (λ k l m.
+          (subst (λ xs. earlier (get_or xs k d.candidate) d.candidate ≡ true) are (before k l (omega (arith, m, at)))))),
+      elim (cases_lt place (length kept)) [
+        | inl less ↦ next_by_key kept offered place fresh d less d_in same
+            ∙ subst (λ xs. earlier (get_or xs place d.candidate) d.candidate ≡ false) are (next (omega (arith, less, many)))
+        | inr past ↦ at_drop_all (λ xs. has_next xs (drop fresh offered)) kept place past
+      ],
+    )
+
 -- one that was offered is, and is a sum of those before it
 pub pass_offered : (kept offered : List Signed) (place fresh : ℕ) (d : Signed) → IsPassing kept offered place fresh →
     fresh < length offered → d ≡ get_or offered fresh d → has_next (drop place kept) (drop fresh offered) ≡ false →
@@ -148,26 +191,6 @@ rows_span_front rows kept n s are =
 
 later_part : (n : ℕ) (cs : List Signed) → take (length cs - n) (drop n cs) ≡ drop n cs
 later_part n cs = take_all (length cs - n) (drop n cs) (let m = length-drop n cs in omega (arith, m))
-
-pub parts_next : (place fresh : ℕ) (kept offered : List Signed) → has_next (drop place kept) (drop fresh offered)
-    ≡ has_next (take (length kept - place) (drop place kept)) (take (length offered - fresh) (drop fresh offered))
-parts_next place fresh kept offered =
-    ap (λ xs. has_next xs (drop fresh offered)) (sym (later_part place kept))
-    ∙ ap (has_next (take (length kept - place) (drop place kept))) (sym (later_part fresh offered))
-
--- so it is by the candidates alone
-pub keys_next : (place fresh : ℕ) (kept offered : List Signed) (keys : List Candidate) (next : Bool) → keys ≡ candidates kept →
-    ((ks : List Signed) → take (length keys - place) (drop place keys) ≡ candidates ks →
-    next ≡ has_next ks (take (length offered - fresh) (drop fresh offered))) →
-    has_next (drop place kept) (drop fresh offered) ≡ next
-keys_next place fresh kept offered keys next are h =
-    let own = λ (c : Signed). c.candidate in
-    let same : take (length keys - place) (drop place keys) ≡ candidates (take (length kept - place) (drop place kept)) =
-    ap (λ xs. take (length xs - place) (drop place xs)) are
-    ∙ ap (λ n. take (n - place) (drop place (candidates kept))) (length-map kept own)
-    ∙ ap (take (length kept - place)) (drop-map own place kept)
-    ∙ take-map own (length kept - place) (drop place kept) in
-    parts_next place fresh kept offered ∙ sym (h (take (length kept - place) (drop place kept)) same)
 
 pub part_small : (P : Signed → Type 0) (n : ℕ) (xs cs : List Signed) → xs ≡ cs → All P cs → All P (take (length xs - n) (drop n xs))
 part_small P n xs cs e h = subst (λ ys. All P (take (length ys - n) (drop n ys))) (sym e)

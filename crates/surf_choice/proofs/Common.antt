@@ -1,7 +1,7 @@
 -- What the proofs of this crate cite most, by one import.
 pub use Rattle.std.proofs.Common.{MatchBool, MatchOption, None, Option, is_some, lit<, not, set, vec_capacity, vec_len}
 pub use Rattle.std.specs.Int.Bits.{xor_assoc, xor_block, xor_comm, xor_self, xor_zero_r}
-pub use Rattle.surf_choice.specs.Candidates.{Chosen, IsChange, IsLonger, IsSumOfLength, candidates, has_next, independent_of, kept_after, signatures, signed_earlier}
+pub use Rattle.surf_choice.specs.Candidates.{Chosen, IsChange, IsSumOfLength, candidates, earlier, has_next, independent_of, kept_after, signatures, signed_earlier}
 pub use Rattle.surf_choice.specs.Echelons.{AreLed, ArePlaced, AreRowsAfter, AreRowsOf, IsAdmitted, IsEchelon, IsGreatest, Rows}
 pub use Rattle.surf_choice.specs.Places.{is_sought, last_of, limit_of, order_of, place_of, stands_before}
 pub use Rattle.surf_choice.specs.declared.candidate.Signed.{Signed}

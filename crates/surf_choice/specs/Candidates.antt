@@ -1,5 +1,5 @@
 -- Candidates for a basis: their order, which are independent, and what is kept of them.
-use Rattle.std.specs.Prelude.{ℕ, suc, ◌≡◌, ◌<◌, ◌≤◌, ◌+◌, ◌++◌, ◌==◌, ◌&&◌, ◌||◌, nat_lt, Bool, true, false, List, []}
+use Rattle.std.specs.Prelude.{ℕ, suc, ◌≡◌, ◌<◌, ◌≤◌, ◌++◌, ◌==◌, ◌&&◌, ◌||◌, nat_lt, Bool, true, false, List, []}
 use Rattle.std.specs.Prelude.{◌∷◌, map, length, take, drop, slice_index_or}
 use Rattle.surf_z2.specs.Greedy.{greedy, greedy_after}
 use Rattle.surf_z2.specs.Order.{merge}
@@ -49,13 +49,6 @@ pub record IsChange (kept offered : List Signed) (place fresh : ℕ) : Type 0 wh
 pub record Chosen : Type 0 where
   pub width : ℕ
   pub kept : List Signed
-
--- a loop is a sum of the first of those kept, and longer than the last of these by so much
-pub record IsLonger (kept : List Signed) (margin : ℕ) (s : Signed) : Type 0 where
-  pub count : ℕ
-  pub count_in : count ≤ length kept
-  pub sum : Spanned numbers (signatures (take count kept)) s.signature
-  pub longer : (k : ℕ) → suc k ≡ count → (slice_index_or kept k s).candidate.length + margin ≤ s.candidate.length
 
 -- a set is a sum of the first of those kept, so many of them, and the last of these is so long: 0 where there is none
 pub record IsSumOfLength (kept : List Signed) (most set : ℕ) : Type 0 where

@@ -1,15 +1,13 @@
 //! The choice among candidates, part by part.
 ghost use Rattle.std.specs.Prelude.{ℕ, ◌≡◌, ◌≢◌, ◌<◌, ◌≤◌, ◌^◌, [], IfOk, OnOk, All, length};
 ghost use Rattle.surf_z2.specs.Order.{merge, IsInOrder};
-ghost use Rattle.surf_choice.specs.Candidates.{signed_earlier, independent_of};
-ghost use Rattle.surf_choice.specs.Places.{stands_before};
-ghost use Rattle.surf_choice.specs.Candidates.{IsLonger, IsSumOfLength};
-ghost use Rattle.surf_choice.specs.Places.{limit_of};
+ghost use Rattle.surf_choice.specs.Candidates.{signed_earlier, independent_of, IsSumOfLength};
+ghost use Rattle.surf_choice.specs.Places.{limit_of, stands_before};
 ghost use Rattle.surf_base.specs.declared.limits.TheConstants.{MAX_LOOPS};
 
 use crate::candidate::{Candidate, Signed};
 use crate::echelon::Echelon;
-use crate::merging::{first_change, list_keys, merge, sift};
+use crate::merging::{first_change, merge, sift};
 use std::alloc::Global;
 use std::marker::Model;
 use surf_base::NoMemory;
@@ -97,27 +95,6 @@ impl Choice {
         Some(last.candidate)
     }
 
-    // How much longer a loop is than the longest of the first that are kept and of which it is a
-    // sum: by any number where it is null, and by 0 where it isn't longer.
-    fn excess(&self, signed: &Signed) -> u64
-        requires small { signed.now.signature < 2 ^ self.now.width }
-        ensures longer { result ≢ 0 → IsLonger self.now.kept result signed.now }
-        ensures greatest { IsInOrder stands_before self.now.kept → (n : ℕ) → n < 2 ^ 64 →
-            IsLonger self.now.kept n signed.now → n ≤ result }
-    {
-        let Some(count) = self.rows.reach(&signed.signature.bits()) else {
-            return 0;
-        };
-        if count == 0 {
-            return u64::MAX;
-        }
-        let last = &self.kept[count - 1];
-        signed
-            .candidate
-            .length
-            .saturating_sub(last.candidate.length)
-    }
-
     /// The length of the last of the first that are kept, of as few as it takes to make a set a sum
     /// of some of them: 0 where the set is empty, and the greatest number where it is no sum of
     /// those kept.
@@ -134,25 +111,6 @@ impl Choice {
             return 0;
         }
         self.kept[count - 1].candidate.length
-    }
-
-    /// By how much all of some loops are longer than those that are kept and of which they are
-    /// sums, and no more than a bound: the greatest such number. 0 where one of them isn't longer.
-    pub fn margin(&self, found: &[Signed], most: u64) -> u64
-        requires small { All (λ s. s.signature < 2 ^ self.now.width) found.now }
-        ensures most { result ≤ most }
-        ensures longer { result ≢ 0 → All (IsLonger self.now.kept result) found.now }
-        ensures greatest { IsInOrder stands_before self.now.kept → (n : ℕ) → n ≤ most →
-            All (IsLonger self.now.kept n) found.now → n ≤ result }
-    {
-        let mut margin = most;
-        for signed in found {
-            if margin == 0 {
-                return 0;
-            }
-            margin = margin.min(self.excess(signed));
-        }
-        margin
     }
 
     /// Makes the choice again from what is kept and other candidates in order. Those kept stay as
@@ -175,9 +133,9 @@ impl Choice {
         merge(later, fresh, &mut self.merged);
         self.kept.truncate(change.place);
         self.rows.truncate(change.place);
-        sift(&self.merged, &mut self.rows, &mut self.kept);
+        self.keys.truncate(change.place);
+        sift(&self.merged, &mut self.rows, &mut self.kept, &mut self.keys);
         self.rows.law_of_echelon();
-        list_keys(&self.kept, &mut self.keys);
         Ok(())
     }
 }

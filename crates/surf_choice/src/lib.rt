@@ -11,8 +11,7 @@
 //! tell what is a sum of the first signatures.
 //!
 //! Where as many are kept as may be independent, none that comes after the last one can be kept any
-//! more: this one is the limit of a [`Choice`]. Its margin says by how much loops are longer than
-//! those that are kept and of which they are sums.
+//! more: this one is the limit of a [`Choice`].
 #![tactic(auto)]
 
 mod candidate;

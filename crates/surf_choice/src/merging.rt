@@ -1,10 +1,9 @@
 //! Lists of candidates in order: two merged to one, and what of one is independent of others.
-ghost use Rattle.std.specs.Prelude.{◌≡◌, ◌<◌, ◌≤◌, ◌+◌, ◌^◌, List, All, MatchOption, length, true, vec_capacity};
+ghost use Rattle.std.specs.Prelude.{ℕ, ◌≡◌, ◌<◌, ◌≤◌, ◌+◌, ◌^◌, All, MatchOption, false, true, length, slice_index_or, vec_capacity};
 ghost use Rattle.surf_z2.specs.Order.{merge};
-ghost use Rattle.surf_choice.specs.Candidates.{signed_earlier, has_next, independent_of, candidates, signatures};
+ghost use Rattle.surf_choice.specs.Candidates.{earlier, signed_earlier, has_next, independent_of, candidates, signatures};
 ghost use Rattle.surf_choice.specs.Candidates.{kept_after, IsChange};
 ghost use Rattle.surf_choice.specs.Echelons.{AreRowsOf};
-ghost use Rattle.surf_choice.specs.declared.candidate.Signed.{Signed};
 
 use crate::candidate::{Candidate, Signed, comes_before, copy_of};
 use crate::echelon::Echelon;
@@ -47,26 +46,20 @@ pub(crate) struct Change {
     pub fresh: usize,
 }
 
-// Whether of those kept, by their candidates, and a list in order the first has the next candidate.
-fn is_next(keys: &[Candidate], offered: &[Signed]) -> bool
-    ensures next { (kept : List Signed) → keys.now ≡ candidates kept → result ≡ has_next kept offered.now }
+// From a place on, the place of the first key that doesn't come before a candidate, or the end.
+fn pass(keys: &[Candidate], from: usize, candidate: &Candidate) -> usize
+    requires from { from ≤ length keys.now }
+    ensures within { (from ≤ result) × (result ≤ length keys.now) }
+    ensures before { (k : ℕ) → from ≤ k → k < result →
+        earlier (slice_index_or keys.now k candidate.now) candidate.now ≡ true }
+    ensures next { result < length keys.now →
+        earlier (slice_index_or keys.now result candidate.now) candidate.now ≡ false }
 {
-    if keys.is_empty() {
-        return false;
+    let mut place = from;
+    while place < keys.len() && comes_before(&keys[place], candidate) {
+        place += 1;
     }
-    offered.is_empty() || comes_before(&keys[0], &offered[0].candidate)
-}
-
-// Lists the candidates of those kept, in room that there is.
-pub(crate) fn list_keys(kept: &[Signed], keys: &mut Vec<Candidate>)
-    requires room { length kept.now ≤ vec_capacity keys.old }
-    ensures keys { keys.new.items ≡ candidates kept.now }
-    ensures room { vec_capacity keys.old ≤ vec_capacity keys.new }
-{
-    keys.clear();
-    for signed in kept {
-        keys.push_reserved(signed.candidate);
-    }
+    place
 }
 
 // Where the choice from those kept and others in order differs from those kept, if it does. The
@@ -86,36 +79,42 @@ pub(crate) fn first_change(
 {
     rows.law_of_echelon();
     let mut place = 0;
-    let mut fresh = 0;
-    while fresh < offered.len() {
-        if is_next(&keys[place..], &offered[fresh..]) {
-            place += 1;
-        } else {
-            let set = offered[fresh].signature.bits();
-            if !rows.spans(place, &set) {
-                return Some(Change { place, fresh });
-            }
-            fresh += 1;
+    for fresh in 0..offered.len() {
+        let signed = &offered[fresh];
+        place = pass(keys, place, &signed.candidate);
+        if !rows.spans(place, &signed.signature.bits()) {
+            return Some(Change { place, fresh });
         }
     }
     None
 }
 
-// Lists candidates after those that are kept, each that is independent of those before it, in room
-// that there is. The rows are those of the signatures that are kept.
-pub(crate) fn sift(candidates: &[Signed], rows: &mut Echelon, kept: &mut Vec<Signed>)
-    requires small { All (λ c. c.signature < 2 ^ rows.old.width) candidates.now }
+// Lists others after those that are kept, each that is independent of those before it, in room
+// that there is. The rows are those of the signatures that are kept, and the keys are their
+// candidates.
+pub(crate) fn sift(
+    others: &[Signed],
+    rows: &mut Echelon,
+    kept: &mut Vec<Signed>,
+    keys: &mut Vec<Candidate>,
+)
+    requires small { All (λ c. c.signature < 2 ^ rows.old.width) others.now }
     requires rows { AreRowsOf rows.old.rows (signatures kept.old.items) }
-    requires room { rows.old.width ≤ vec_capacity kept.old }
-    ensures kept { kept.new.items ≡ kept_after kept.old.items candidates.now }
+    requires keys { keys.old.items ≡ candidates kept.old.items }
+    requires room { (rows.old.width ≤ vec_capacity kept.old)
+        × (rows.old.width ≤ vec_capacity keys.old) }
+    ensures kept { kept.new.items ≡ kept_after kept.old.items others.now }
     ensures rows { AreRowsOf rows.new.rows (signatures kept.new.items) }
+    ensures keys { keys.new.items ≡ candidates kept.new.items }
     ensures width { rows.new.width ≡ rows.old.width }
-    ensures room { vec_capacity kept.old ≤ vec_capacity kept.new }
+    ensures room { (vec_capacity kept.old ≤ vec_capacity kept.new)
+        × (vec_capacity keys.old ≤ vec_capacity keys.new) }
 {
-    for signed in candidates {
+    for signed in others {
         if rows.admit(&signed.signature.bits()) {
             rows.law_of_echelon();
             kept.push_reserved(copy_of(signed));
+            keys.push_reserved(signed.candidate);
         }
     }
 }

@@ -265,31 +265,19 @@ module _ (mesh : Mesh) (lengths : List ℕ) (trees : ℕ → Tree) (surface : Is
         let same : c' ≡ get_or kept i c = get_or_default kept i (signed_of mesh d (record { size = 0; through = 0; walk = [] })) c i_in in
         let size_is : k.size ≡ c'.candidate.length = ap (λ (t : ℕ × (ℕ × ℕ)). t.0) at in
         let class_is : class k ≡ c'.signature = ap (λ (t : ℕ × (ℕ × ℕ)). t.1.1) at in
+        let first_is = shorter_first kept sum s.signature c' i order h first in
+        let own_at : get_or kept i c' ≡ c' = get_or_default kept i c' (signed_of mesh d (record { size = 0; through = 0; walk = [] })) i_in in
+        let size_at = ap (λ (x : Signed). x.candidate.length) own_at in
+        let fits : k.size ≤ sum = omega (arith, first_is, size_is, size_at) in
         subst (λ (x : Signed). InSpan numbers xs x.signature) (same ∙ sym (get_or-take h.count kept i c first))
         (subst (InSpan numbers xs) class_is
         (member_in numbers class p loops k (Contains-get_or loops i (record { size = 0; through = 0; walk = [] }) l_in) (elim long [
           | inl low ↦
-              let fits = shorter_first kept 0 (record s { candidate = record { length = least; base = 0; edge = 0 } }) c' i order (record {
-                count = h.count;
-                count_in = h.count_in;
-                sum = h.sum;
-                longer = λ j is. (let last = h.last j (record s { candidate = record { length = least; base = 0; edge = 0 } }) is in omega (arith, last, low));
-              }) first in
-              let own_at : get_or kept i c' ≡ c' = get_or_default kept i c' (signed_of mesh d (record { size = 0; through = 0; walk = [] })) i_in in
-              let size_at = ap (λ (x : Signed). x.candidate.length) own_at in
               or_right (is_shorter_by margin (loop_length mesh other (others z) e) k) (leb k.size least)
-              (le-leb k.size least (omega (arith, fits, size_is, size_at)))
+              (le-leb k.size least (omega (arith, fits, low)))
           | inr far ↦
-              let fits = shorter_first kept margin s c' i order (record {
-                count = h.count;
-                count_in = h.count_in;
-                sum = h.sum;
-                longer = λ j is. (let last = h.last j s is in omega (arith, last, far));
-              }) first in
-              let own_at : get_or kept i c' ≡ c' = get_or_default kept i c' (signed_of mesh d (record { size = 0; through = 0; walk = [] })) i_in in
-              let size_at = ap (λ (x : Signed). x.candidate.length) own_at in
               or_left (is_shorter_by margin (loop_length mesh other (others z) e) k) (leb k.size least)
-              (le-leb (k.size + margin) (loop_length mesh other (others z) e) (omega (arith, fits, size_is, size_at, size)))
+              (le-leb (k.size + margin) (loop_length mesh other (others z) e) (omega (arith, fits, far, size)))
         ])))) in
         depends_from_spanned mesh d surface split (walks_found (filter p loops)) (loop_walk mesh (others z) e)
         (all_mapped (IsClosed mesh) (λ k. k.walk) (filter p loops)

@@ -15,7 +15,7 @@ pub use Rattle.surf_choice.proofs.Limits.{IsShort, all_sought, before_last, limi
 pub use Rattle.surf_choice.proofs.Limits.{merged_sorted, sorted_by_number}
 pub use Rattle.surf_choice.proofs.Longer.{shorter_first}
 pub use Rattle.surf_choice.proofs.Sifted.{all_kept, all_merged, greedy_mapped}
-pub use Rattle.surf_choice.specs.Candidates.{Chosen, IsLonger, IsSumOfLength, earlier, independent_of, signatures}
+pub use Rattle.surf_choice.specs.Candidates.{Chosen, IsSumOfLength, earlier, independent_of, signatures}
 pub use Rattle.surf_choice.specs.Candidates.{signed_earlier}
 pub use Rattle.surf_choice.specs.Places.{is_sought, last_of, limit_of, order_of, place_of, stands_before}
 pub use Rattle.surf_choice.specs.declared.candidate.Candidate.{Candidate}

@@ -1,4 +1,4 @@
-use Rattle.surf_choice.proofs.Common.{◌≡◌, ◌<◌, ◌^◌, List, length, [], take, refl, sym, ap, ◌∙◌, subst, arith, take-map, Signed, Chosen, signed_earlier, candidates, signatures, Rows, AreRowsOf}
+use Rattle.surf_choice.proofs.Common.{◌<◌, ◌^◌, [], take, refl, sym, ap, ◌∙◌, subst, arith, take-map, Signed, Chosen, signed_earlier, signatures, Rows, AreRowsOf}
 use Rattle.surf_choice.proofs.Changed.{part_small, front_small, kept_after_small}
 use Rattle.surf_choice.proofs.Fronts.{rows_front}
 use Rattle.surf_choice.proofs.Sifted.{AreSmall, all_merged, as_many}
@@ -41,18 +41,18 @@ invariant_of-self-2 c =
     let many = as_many c.sift.new.kept.items c.sift.new.rows.rows c.sift.ensures.rows in (
       wide,
       omega (arith, many, wide, c.law_of_echelon.ensures.few),
-      omega (arith, c.sift.ensures.room, c.truncate.ensures.capacity, c.self.invariant.2),
+      omega (arith, c.sift.ensures.room.0, c.truncate.ensures.capacity, c.self.invariant.2),
       c.self.invariant.3,
       subst (AreSmall t.width) (sym c.sift.ensures.kept)
           (kept_after_small P c.truncate.new.self.items c.deref-4.result.now front (subst (AreSmall t.width) (sym c.deref-4.ensures.value) merged)),
       c.sift.ensures.rows,
-      c.list_keys.ensures.keys ∙ ap candidates c.deref-5.ensures.value,
-      omega (arith, c.list_keys.ensures.room, c.self.invariant.7),
+      c.sift.ensures.keys,
+      omega (arith, c.sift.ensures.room.1, c.truncate-3.ensures.capacity, c.self.invariant.7),
     )
 
-pub list_keys-requires : goal.list_keys-requires
-list_keys-requires c =
-    let wide = c.sift.ensures.width ∙ ap (λ (r : Rows). r.width) c.truncate-2.ensures.rows ∙ c.self.invariant.0 in
-    let many = as_many c.sift.new.kept.items c.sift.new.rows.rows c.sift.ensures.rows in
-    let same : length c.deref-5.result.now ≡ length c.sift.new.kept.items = ap (λ (xs : List Signed). length xs) c.deref-5.ensures.value in
-    record { room = omega (arith, many, wide, same, c.law_of_echelon.ensures.few, c.self.invariant.7) }
+pub sift-requires-clause-keys : goal.sift-requires-clause-keys
+sift-requires-clause-keys c =
+    let t = c.self.inside in
+    let n = c.in-Some.change.place in
+    rw (c.truncate-3.ensures.items, c.truncate.ensures.items)
+    (ap (take n) c.self.invariant.6 ∙ take-map (λ (s : Signed). s.candidate) n t.kept.items)
