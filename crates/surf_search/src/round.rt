@@ -20,7 +20,7 @@ use surf_base::{EdgeId, NoMemory, VertexId};
 use surf_choice::{Candidate, Choice, Signed};
 use surf_mesh::HalfMesh;
 
-// Vertices with more edges than this are searched before others of their cap.
+// A vertex with more edges than this has many.
 const MANY_EDGES: usize = 16;
 
 /// A round on a surface: its scout, the vertices that are marked, where the loops of the round are
@@ -229,6 +229,13 @@ fn sort_falling(caps: &[u64], ranks: &[u32], vertices: &mut [VertexId])
     vertices.sort_unstable_by_key(|v| fall_order(caps, ranks, *v));
 }
 
+/// Whether there are many edges at a vertex.
+pub(crate) fn has_many_edges(mesh: &HalfMesh, v: VertexId) -> bool
+    requires vertex { v < mesh.now.vertices }
+{
+    mesh.ring_edges(v).len() > MANY_EDGES
+}
+
 // Lists the rank of each vertex of a list among those of one cap: its number with the bits
 // reversed, which scatters the vertices. Those with many edges are first, since whoever comes to
 // such a vertex comes to all around it: it pays most to bar them early.
@@ -238,7 +245,7 @@ fn ranks_of(alloc: Global, mesh: &HalfMesh, list: &[VertexId]) -> Result<Vec<u32
     let mut ranks = vec![in alloc; 0u32; mesh.vertices() as usize]?;
     for k in 0..list.len() {
         let v = list[k];
-        if mesh.ring_edges(v).len() <= MANY_EDGES {
+        if !has_many_edges(mesh, v) {
             ranks[v.index()] = v.number().reverse_bits();
         }
     }

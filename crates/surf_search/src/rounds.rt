@@ -5,7 +5,7 @@ ghost use Rattle.surf_surfaces.specs.Surface.{edge_count};
 ghost use Rattle.surf_surfaces.specs.FewBases.{MeetsAll};
 ghost use Rattle.surf_search.specs.Found.{surface_of, is_among};
 ghost use Rattle.surf_search.specs.Places.{HavePlacesOfBasis};
-ghost use Rattle.surf_search.specs.Rounds.{AreCapped, AreKeptUpTo, AreRaisedTo, cap_at, in_caps, is_limit_below, most_at_first};
+ghost use Rattle.surf_search.specs.Rounds.{AreCapped, AreKeptUpTo, AreNoLess, AreRaisedTo, cap_at, in_caps, is_limit_below, most_at_first};
 ghost use Rattle.surf_choice.specs.Places.{limit_of};
 ghost use Rattle.surf_search.specs.Signing.{AreSigned};
 ghost use Rattle.surf_base.specs.declared.limits.TheConstants.{MAX_LOOPS};
@@ -13,11 +13,12 @@ ghost use Rattle.surf_base.specs.declared.limits.TheConstants.{MAX_LOOPS};
 use crate::caps::raise_caps;
 use crate::costs::{Costs, is_cut_cheaper};
 use crate::finder::Finder;
-use crate::round::{keep_at, search_rising};
+use crate::round::{has_many_edges, keep_at, search_rising};
 use crate::surface::SignedSurface;
 use std::alloc::Global;
 use surf_base::{NoMemory, VertexId};
 use surf_choice::Choice;
+use surf_mesh::HalfMesh;
 use surf_tree::even_length;
 
 /// What all rounds go by: a surface, vertices of a cut, and what searches cost.
@@ -26,6 +27,21 @@ struct Plan<'s, 'v, 'c, 'a> {
     surface: &'s SignedSurface<'a>,
     vertices: &'v [VertexId],
     costs: Costs<'c>,
+}
+
+// Raises the caps of vertices with many edges to a length. Whoever comes to such a vertex comes to
+// all around it, so one search from it, which bars it to those to come, spares each of them much.
+fn raise_hubs(mesh: &HalfMesh, most: u64, caps: &mut [u64])
+    requires caps { length caps.old ≡ mesh.now.vertices }
+    ensures more { AreNoLess caps.old caps.new }
+    ensures count { length caps.new ≡ length caps.old }
+{
+    for v in 0..mesh.vertices() {
+        let vertex = VertexId::new(v);
+        if has_many_edges(mesh, vertex) {
+            caps[vertex.index()] = caps[vertex.index()].max(most);
+        }
+    }
 }
 
 // A copy of caps, raised to what edges ask for by what is kept, though to no more than a length.
@@ -42,8 +58,8 @@ fn raised_caps(
         choice.now.kept most caps.items) }
     ensures count { IfOk result (λ caps. length caps.items ≡ length reached.now) }
 {
-    let mut caps = vec![in alloc; 0u64; reached.len()]?;
-    caps.copy_from_slice(reached);
+    let mut caps = reached.to_vec(alloc)?;
+    raise_hubs(surface.mesh, most, &mut caps);
     raise_caps(alloc, surface, choice, most, &mut caps)?;
     Ok(caps)
 }
@@ -51,16 +67,18 @@ fn raised_caps(
 // A copy of caps, raised to a length at the vertices of a list.
 fn cut_caps(
     alloc: Global,
+    mesh: &HalfMesh,
     vertices: &[VertexId],
     most: u64,
     reached: &[u64],
 ) -> Result<Vec<u64>, NoMemory>
+    requires reached { length reached.now ≡ mesh.now.vertices }
     requires vertices { All (λ v. v < length reached.now) vertices.now }
     ensures cut { IfOk result (λ caps. All (λ v. most ≤ cap_at caps.items v) vertices.now) }
     ensures count { IfOk result (λ caps. length caps.items ≡ length reached.now) }
 {
-    let mut caps = vec![in alloc; 0u64; reached.len()]?;
-    caps.copy_from_slice(reached);
+    let mut caps = reached.to_vec(alloc)?;
+    raise_hubs(mesh, most, &mut caps);
     for v in vertices {
         caps[v.index()] = caps[v.index()].max(most);
     }
@@ -86,7 +104,7 @@ fn round_caps(
     ensures count { IfOk result (λ caps. length caps.items ≡ length reached.now) }
 {
     let caps = raised_caps(alloc, plan.surface, choice, most, reached)?;
-    let cut = cut_caps(alloc, plan.vertices, most, reached)?;
+    let cut = cut_caps(alloc, plan.surface.mesh, plan.vertices, most, reached)?;
     if is_cut_cheaper(&plan.costs, &choice.limit(), reached, &cut, &caps) {
         return Ok(cut);
     }
