@@ -12,4 +12,4 @@ pub returns-clause-count : goal.returns-clause-count
 returns-clause-count c =
     let caps = c.raise_caps.new.caps in
     ap (λ (xs : List ℕ). length xs) (written_back caps _ _ (omega (arith, c.raise_caps.ensures.count, c.deref_mut.ensures.len)))
-    ∙ c.raise_caps.ensures.count ∙ ap (λ (xs : List ℕ). length xs) (c.deref_mut.ensures.value ∙ c.copy_from_slice.ensures.items)
+    ∙ c.raise_caps.ensures.count ∙ ap (λ (xs : List ℕ). length xs) (c.deref_mut.ensures.value ∙ c.in_ok-caps.ensures.items_if_clones_equal (λ x y same. same))
