@@ -23,15 +23,16 @@ agree_on mesh a b c s t more h k e e_in low high = k e e_in low high ∙ agree_l
 -- a finder is ahead of one that is the same
 pub ahead_first : (f scout : SurfaceTables) (marks : List Bool) → scout ≡ f → IsAhead f scout marks
 ahead_first f scout marks same = subst (λ (s : SurfaceTables). IsAhead f s marks) (sym same)
-    (record { mesh = refl; signs = refl; off = agree_same f.mesh f.lengths (is_marked marks) })
+    (record { mesh = refl; signs = refl; given = refl; off = agree_same f.mesh f.lengths (is_marked marks) })
 
 -- and stays ahead while more vertices are marked
 pub ahead_on : (f old new : SurfaceTables) (before after : List Bool) → IsAhead f old before → new.mesh ≡ old.mesh →
-    new.signs ≡ old.signs → ((v : ℕ) → IsTrue (is_marked before v) → IsTrue (is_marked after v)) →
+    new.signs ≡ old.signs → new.given ≡ old.given → ((v : ℕ) → IsTrue (is_marked before v) → IsTrue (is_marked after v)) →
     AgreeOff old.mesh old.lengths new.lengths (is_marked after) → IsAhead f new after
-ahead_on f old new before after h mesh signs stay off = record {
+ahead_on f old new before after h mesh signs given stay off = record {
   mesh = mesh ∙ h.mesh;
   signs = signs ∙ h.signs;
+  given = given ∙ h.given;
   off = agree_on f.mesh f.lengths old.lengths new.lengths (is_marked before) (is_marked after) stay h.off
       (subst (λ m. AgreeOff m old.lengths new.lengths (is_marked after)) h.mesh off);
 }
@@ -54,14 +55,14 @@ bar_no_shorter base mesh barred given old new rows v is same so_far links off sh
 
 -- a finder that bars more vertices
 pub barring_on : (f scout old new : SurfaceTables) (before after : List Bool) → IsBarring f scout before → old ≡ scout →
-    new.mesh ≡ old.mesh → new.signs ≡ old.signs → length after ≡ length before →
+    new.mesh ≡ old.mesh → new.signs ≡ old.signs → new.given ≡ old.given → length after ≡ length before →
     ((v : ℕ) → IsTrue (is_marked before v) → IsTrue (is_marked after v)) →
     AgreeOff old.mesh old.lengths new.lengths (is_marked after) → AreNoShorter old.mesh old.lengths new.lengths →
     IsBarring f new after
-barring_on f scout old new before after h same mesh signs count stay off longer = record {
+barring_on f scout old new before after h same mesh signs given count stay off longer = record {
   positive = h.positive;
   count = count ∙ h.count;
-  ahead = ahead_on f old new before after (subst (λ (s : SurfaceTables). IsAhead f s before) (sym same) h.ahead) mesh signs stay off;
+  ahead = ahead_on f old new before after (subst (λ (s : SurfaceTables). IsAhead f s before) (sym same) h.ahead) mesh signs given stay off;
   no_shorter = λ e e_in.
       (let a = h.no_shorter e e_in in
       let b : edge_length scout.lengths e ≤ edge_length new.lengths e =

@@ -12,8 +12,14 @@ use Rattle.surf_search.proofs.Searched.{found_short}
 
 -- the tables of a finder that bars vertices are those of the surface, with other lengths
 pub barring_is : (f scout : SurfaceTables) (marks : List Bool) → IsBarring f scout marks →
-    scout ≡ record { mesh = f.mesh; lengths = scout.lengths; signs = f.signs }
-barring_is f scout marks h t = record { mesh = h.ahead.mesh t; lengths = scout.lengths; signs = h.ahead.signs t }
+    scout ≡ record f { lengths = scout.lengths }
+barring_is f scout marks h t = record { mesh = h.ahead.mesh t; lengths = scout.lengths; signs = h.ahead.signs t; given = h.ahead.given t }
+
+-- and with the lengths before any vertex was barred they are those of the surface
+pub unbarred_is : (f scout : SurfaceTables) (marks : List Bool) → IsBarring f scout marks → f.given ≡ f.lengths →
+    record scout { lengths = scout.given } ≡ f
+unbarred_is f scout marks h same t =
+    record { mesh = h.ahead.mesh t; lengths = (h.ahead.given ∙ same) t; signs = h.ahead.signs t; given = h.ahead.given t }
 
 round_start : (caps : List ℕ) (marks : List Bool) (bound z : ℕ) (p q : Place) → IsTrue (is_no_later p q) →
     IsTrue (in_round caps marks bound z q) → IsTrue (in_round caps marks bound z p)
@@ -64,7 +70,7 @@ module _ (f : SurfaceTables) (other : List ℕ) (surface : IsSurface f.mesh) (po
     (z cap : ℕ) (z_in : z < f.mesh.vertices) (sought : Sought) (starts : AreSoughtFromStart sought)
     (as_far : (n : ℕ) (p : Place) → IsTrue (set n) → IsTrue (is_within_cap cap p) → IsTrue (sought n p)) (old new : Chosen)
     (limit : Option Candidate) (capped : IsCapped (limit_of old) cap limit)
-    (next : IsKeptAt (record { mesh = f.mesh; lengths = other; signs = f.signs }) z limit old new) where
+    (next : IsKeptAt (record f { lengths = other }) z limit old new) where
   -- a search at a vertex
   pub searched_here : AreKeptUpTo f sought old → AreKeptUpTo f (with_places z (is_within_cap cap) sought) new
   searched_here kept trees chosen d split are =
@@ -86,7 +92,7 @@ pub searched_marked : (f : SurfaceTables) (other : List ℕ) (before after : Lis
     (limit : Option Candidate) → IsSurface f.mesh → ArePositive f.mesh f.lengths → ArePositive f.mesh other →
     f.mesh.vertices ≤ 2 ^ 32 → edge_count f.mesh ≤ 2 ^ 32 → AreNoShorter f.mesh f.lengths other →
     AgreeOff f.mesh f.lengths other (is_marked before) → z < f.mesh.vertices → IsCapped (limit_of old) cap limit →
-    IsKeptAt (record { mesh = f.mesh; lengths = other; signs = f.signs }) z limit old new → after ≡ set before z true →
+    IsKeptAt (record f { lengths = other }) z limit old new → after ≡ set before z true →
     KeepsInRound f least cap before after old new
 searched_marked f other before after least z cap old new limit surface positive positive_too few_v few_e no_shorter agree z_in
     capped next is caps low kept =
@@ -114,7 +120,7 @@ pub searched_near : (f : SurfaceTables) (other : List ℕ) (before after : List 
     (limit now wide : Option Candidate) (found : List Signed) → IsSurface f.mesh → ArePositive f.mesh f.lengths →
     ArePositive f.mesh other → f.mesh.vertices ≤ 2 ^ 32 → edge_count f.mesh ≤ 2 ^ 32 → AreNoShorter f.mesh f.lengths other →
     AgreeOff f.mesh f.lengths other (is_marked before) → z < f.mesh.vertices → IsCapped (limit_of old) cap limit →
-    IsKeptAt (record { mesh = f.mesh; lengths = other; signs = f.signs }) z limit old new → IsCapped (limit_of new) cap now →
+    IsKeptAt (record f { lengths = other }) z limit old new → IsCapped (limit_of new) cap now →
     AreFound f.mesh other f.signs wide z found → 2 * far < margin → margin ≤ spare_of now wide →
     AreLongerOr new.kept least margin found → length after ≡ f.mesh.vertices → AreMarkedNear f.mesh other z far before after →
     KeepsInRound f least cap before after old new

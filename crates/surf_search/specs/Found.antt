@@ -38,14 +38,15 @@ pub record Search : Type 0 where
   pub ways : WayTables
   pub base : ℕ
 
--- a surface with lengths and the signatures of its edges
+-- a surface with lengths and the signatures of its edges, and the lengths before any vertex was barred
 pub record SurfaceTables : Type 0 where
   pub mesh : Mesh
   pub lengths : List ℕ
   pub signs : CotreeTables
+  pub given : List ℕ
 
 abbrev pub surface_of : SignedSurface → SurfaceTables
-surface_of s = record { mesh = s.mesh.now; lengths = s.lengths.now; signs = s.signatures.now }
+surface_of s = record { mesh = s.mesh.now; lengths = s.lengths.now; signs = s.signatures.now; given = s.lengths.now }
 
 abbrev pub search_of : Mesh → List ℕ → CotreeTables → NearTables → WayTables → ℕ → Search
 search_of mesh lengths s t w base =

@@ -57,8 +57,10 @@ StaysFirst f old new first = (lengths : List ℕ) → ArePositive f.mesh lengths
     AgreeOff f.mesh lengths f.lengths (is_marked old) → IsFirstIn f.mesh lengths f.signs (is_marked old) first →
     IsFirstIn f.mesh lengths f.signs (is_marked new) first
 
--- a finder has the lengths of another one at all edges that have no marked end
+-- a finder has the lengths of another one at all edges that have no marked end, and the lengths before any vertex was
+-- barred are the same
 pub record IsAhead (f scout : SurfaceTables) (marks : List Bool) : Type 0 where
   pub mesh : scout.mesh ≡ f.mesh
   pub signs : scout.signs ≡ f.signs
+  pub given : scout.given ≡ f.given
   pub off : AgreeOff f.mesh f.lengths scout.lengths (is_marked marks)

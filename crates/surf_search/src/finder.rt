@@ -87,6 +87,7 @@ impl<'a> Model for Finder<'a> {
       mesh = f.surface.mesh.now;
       lengths = f.links.lengths;
       signs = f.surface.signatures.now;
+      given = f.links.given;
     } };
 
     ghost invariant = { λ f. (f.links.mesh ≡ f.surface.mesh.now)
@@ -155,9 +156,9 @@ impl<'a> Finder<'a> {
         })
     }
 
-    /// Finds the loops at a base that aren't null and come before a limit, if there is one. Of those
-    /// of one class it leaves out the later ones, as far as it sees that they are of one class.
-    /// `ties` says which is first of two of one length.
+    /// Finds the loops at a base that aren't null and come before a limit, if there is one. Of
+    /// those of one class it leaves out the later ones, as far as it sees that they are of one
+    /// class. `ties` says which is first of two of one length.
     pub fn find(
         &mut self,
         base: VertexId,
@@ -226,6 +227,7 @@ impl<'a> Finder<'a> {
         ensures no_shorter { AreNoShorter self.old.mesh self.old.lengths self.new.lengths }
         ensures mesh { self.new.mesh ≡ self.old.mesh }
         ensures signs { self.new.signs ≡ self.old.signs }
+        ensures given { self.new.given ≡ self.old.given }
     {
         self.links.law_of_links();
         marks[v.index()] = true;
@@ -246,11 +248,19 @@ impl<'a> Finder<'a> {
         ensures count { length marks.new ≡ length marks.old }
         ensures mesh { self.new.mesh ≡ self.old.mesh }
         ensures signs { self.new.signs ≡ self.old.signs }
+        ensures given { self.new.given ≡ self.old.given }
     {
         self.surface.mesh.law_of_surface();
         self.links.law_of_links();
         self.tables.desk.grow(&self.links, base, far);
         mark_all(self.tables.desk.settled(), &mut self.links, marks);
+    }
+
+    /// Lets no vertex be barred any more: each edge has its given length again.
+    pub(crate) fn unbar(&mut self)
+        ensures unbarred { self.new ≡ record self.old { lengths = self.old.given } }
+    {
+        self.links.unbar();
     }
 
     // Writes the walk of a candidate's loop, if it isn't there yet, and with it those of all others

@@ -56,6 +56,7 @@ fn scout_first(
     ensures count { length marks.new ≡ length marks.old }
     ensures mesh { finder.new.mesh ≡ finder.old.mesh }
     ensures signs { finder.new.signs ≡ finder.old.signs }
+    ensures given { finder.new.given ≡ finder.old.given }
 {
     finder.law_of_finder();
     let Some(least) = first else {
@@ -143,7 +144,8 @@ pub fn first_among(
     vertices: &[VertexId],
 ) -> Result<Option<Candidate>, NoMemory>
     requires lengths { length surface.now.lengths.now ≡ edge_count surface.now.mesh.now }
-    requires signed { (count : ℕ) × AreSigned surface.now.mesh.now surface.now.signatures.now count }
+    requires signed { (count : ℕ)
+        × AreSigned surface.now.mesh.now surface.now.signatures.now count }
     requires vertices { All (λ v. v < surface.now.mesh.now.vertices) vertices.now }
     ensures first { IfOk result (IsFirstAmong surface.now.mesh.now surface.now.lengths.now
         surface.now.signatures.now vertices.now) }

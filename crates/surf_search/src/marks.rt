@@ -24,6 +24,7 @@ pub(crate) fn mark_all(list: &[VertexId], links: &mut Links<'_>, marks: &mut [bo
         (is_marked marks.new) }
     ensures no_shorter { AreNoShorter links.old.mesh links.old.lengths links.new.lengths }
     ensures mesh { links.new.mesh ≡ links.old.mesh }
+    ensures given { links.new.given ≡ links.old.given }
 {
     for v in list {
         if !marks[v.index()] {

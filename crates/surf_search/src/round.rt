@@ -1,7 +1,7 @@
 //! A round of searches: each goes no farther than a cap, and past no vertex that is done with.
 ghost use Rattle.std.specs.Prelude.{◌≡◌, ◌≢◌, ◌<◌, ◌≤◌, ◌-◌, ◌^◌, ◌⊎◌, ℕ, true, false, IsTrue, All, IfOk, OnOk, IsPermutation, length, slice_index_or, slice_set};
 ghost use Rattle.surf_surfaces.specs.Surface.{edge_count};
-ghost use Rattle.surf_choice.specs.Places.{place_of, is_sought, limit_of};
+ghost use Rattle.surf_choice.specs.Places.{place_of, is_sought};
 ghost use Rattle.surf_search.specs.Found.{surface_of, AreFirstFound};
 ghost use Rattle.surf_search.specs.declared.told_loops.Ties.TheVariants.{LesserBase};
 ghost use Rattle.surf_search.specs.Passing.{is_marked};
@@ -12,7 +12,6 @@ use crate::finder::Finder;
 use crate::kept_loops::sort_loops;
 use crate::pace::{Pace, spare};
 use crate::reached::is_sought;
-use crate::scout::Scout;
 use crate::surface::SignedSurface;
 use crate::told_loops::Ties;
 use std::alloc::Global;
@@ -23,12 +22,13 @@ use surf_mesh::HalfMesh;
 // A vertex with more edges than this has many.
 const MANY_EDGES: usize = 16;
 
-/// A round on a surface: its scout, the vertices that are marked, where the loops of the round are
-/// no longer sought, what the last search found, and a length up to which nothing is left to find.
+/// A round on a surface: when its searches go beyond what they must, the vertices that are marked,
+/// where the loops of the round are no longer sought, what the last search found, and a length up
+/// to which nothing is left to find.
 #[derive(Drop)]
 pub(crate) struct Round<'s, 'a> {
     surface: &'s SignedSurface<'a>,
-    scout: Scout<'a>,
+    pace: Pace,
     marks: Vec<bool>,
     found: Vec<Signed>,
     least: u64,
@@ -55,7 +55,8 @@ fn capped(limit: &Option<Candidate>, cap: u64) -> Option<Candidate>
 fn count_sooner(found: &[Signed], limit: &Option<Candidate>) -> usize
     ensures count { result ≤ length found.now }
     ensures last { (s : Signed) → 0 < result →
-        IsTrue (is_sought limit.now (place_of (slice_index_or found.now (result - 1) s).candidate)) }
+        IsTrue (is_sought limit.now
+        (place_of (slice_index_or found.now (result - 1) s).candidate)) }
     ensures late { (k : ℕ) (s : Signed) → result ≤ k → k < length found.now →
         is_sought limit.now (place_of (slice_index_or found.now k s).candidate) ≡ false }
 {
@@ -69,8 +70,8 @@ fn count_sooner(found: &[Signed], limit: &Option<Candidate>) -> usize
     0
 }
 
-// Finds the loops at a vertex up to a limit, of each class the first. Of those up to an earlier one it keeps what is
-// independent of the loops kept before.
+// Finds the loops at a vertex up to a limit, of each class the first. Of those up to an earlier one
+// it keeps what is independent of the loops kept before.
 pub(crate) fn keep_at(
     finder: &mut Finder<'_>,
     base: VertexId,
@@ -83,8 +84,8 @@ pub(crate) fn keep_at(
     requires signed { AreSigned finder.old.mesh finder.old.signs choice.old.width }
     requires few { (finder.old.mesh.vertices ≤ 2 ^ 32) × (edge_count finder.old.mesh ≤ 2 ^ 32) }
     requires wide { IsWider limit.now wide.now }
-    ensures found { OnOk result (AreFirstFound LesserBase finder.old.mesh finder.old.lengths finder.old.signs
-        wide.now base found.new.items) }
+    ensures found { OnOk result (AreFirstFound LesserBase finder.old.mesh finder.old.lengths
+        finder.old.signs wide.now base found.new.items) }
     ensures kept { OnOk result (IsKeptAt finder.old base limit.now choice.old choice.new) }
     ensures width { choice.new.width ≡ choice.old.width }
     ensures same { finder.new ≡ finder.old }
@@ -120,23 +121,24 @@ fn margin_above(choice: &Choice, found: &[Signed], least: u64, most: u64) -> u64
 }
 
 // Marks a vertex, and bars the ways through it.
-fn bar(round: &mut Round<'_, '_>, base: VertexId)
+fn bar(round: &mut Round<'_, '_>, finder: &mut Finder<'_>, base: VertexId)
     requires base { base < round.old.surface.now.mesh.now.vertices }
-    requires barring { IsBarring (surface_of round.old.surface.now) round.old.scout.finder
+    requires barring { IsBarring (surface_of round.old.surface.now) finder.old
         round.old.marks.items }
     ensures marks { round.new.marks.items ≡ slice_set round.old.marks.items base true }
-    ensures barring { IsBarring (surface_of round.old.surface.now) round.new.scout.finder
+    ensures barring { IsBarring (surface_of round.old.surface.now) finder.new
         round.new.marks.items }
     ensures surface { round.new.surface ≡ round.old.surface }
     ensures least { round.new.least ≡ round.old.least }
 {
-    round.scout.finder.mark(base, &mut round.marks);
+    finder.mark(base, &mut round.marks);
 }
 
 // Searches from a vertex, and keeps what is new there up to a cap. Then the vertex is marked, and
 // with it those so near that loops there are longer than kept ones of which they are sums.
 fn search(
     round: &mut Round<'_, '_>,
+    finder: &mut Finder<'_>,
     base: VertexId,
     cap: u64,
     choice: &mut Choice,
@@ -144,37 +146,30 @@ fn search(
     requires base { base < round.old.surface.now.mesh.now.vertices }
     requires signed { AreSigned round.old.surface.now.mesh.now round.old.surface.now.signatures.now
         choice.old.width }
-    requires barring { IsBarring (surface_of round.old.surface.now) round.old.scout.finder
+    requires barring { IsBarring (surface_of round.old.surface.now) finder.old
         round.old.marks.items }
     ensures kept { OnOk result (KeepsInRound (surface_of round.old.surface.now) round.old.least cap
         round.old.marks.items round.new.marks.items choice.old choice.new) }
-    ensures barring { OnOk result (IsBarring (surface_of round.old.surface.now) round.new.scout.finder
-        round.new.marks.items) }
+    ensures barring { IsBarring (surface_of round.old.surface.now) finder.new
+        round.new.marks.items }
     ensures marked { OnOk result (IsTrue (is_marked round.new.marks.items base)) }
     ensures width { choice.new.width ≡ choice.old.width }
     ensures surface { round.new.surface ≡ round.old.surface }
     ensures least { round.new.least ≡ round.old.least }
 {
     round.surface.mesh.law_of_surface();
-    round.scout.finder.law_of_finder();
+    finder.law_of_finder();
     let limit = capped(&choice.limit(), cap);
-    let wide = round.scout.pace.limit(&limit);
-    keep_at(
-        &mut round.scout.finder,
-        base,
-        &limit,
-        &wide,
-        choice,
-        &mut round.found,
-    )?;
+    let wide = round.pace.limit(&limit);
+    keep_at(finder, base, &limit, &wide, choice, &mut round.found)?;
     let spare = spare(&capped(&choice.limit(), cap), &wide);
     let margin = margin_above(choice, &round.found, round.least, spare);
     let far = margin.saturating_sub(1) / 2;
-    round.scout.pace.step(far > 0);
+    round.pace.step(far > 0);
     if far == 0 {
-        bar(round, base);
+        bar(round, finder, base);
     } else {
-        round.scout.finder.mark_near(base, far, &mut round.marks);
+        finder.mark_near(base, far, &mut round.marks);
     }
     Ok(())
 }
@@ -182,6 +177,7 @@ fn search(
 // Searches from a vertex up to its cap, unless it is marked.
 fn visit(
     round: &mut Round<'_, '_>,
+    finder: &mut Finder<'_>,
     base: VertexId,
     cap: u64,
     choice: &mut Choice,
@@ -189,12 +185,12 @@ fn visit(
     requires base { base < round.old.surface.now.mesh.now.vertices }
     requires signed { AreSigned round.old.surface.now.mesh.now round.old.surface.now.signatures.now
         choice.old.width }
-    requires barring { IsBarring (surface_of round.old.surface.now) round.old.scout.finder
+    requires barring { IsBarring (surface_of round.old.surface.now) finder.old
         round.old.marks.items }
     ensures kept { OnOk result (KeepsInRound (surface_of round.old.surface.now) round.old.least cap
         round.old.marks.items round.new.marks.items choice.old choice.new) }
-    ensures barring { OnOk result (IsBarring (surface_of round.old.surface.now) round.new.scout.finder
-        round.new.marks.items) }
+    ensures barring { IsBarring (surface_of round.old.surface.now) finder.new
+        round.new.marks.items }
     ensures marked { OnOk result (IsTrue (is_marked round.new.marks.items base)) }
     ensures width { choice.new.width ≡ choice.old.width }
     ensures surface { round.new.surface ≡ round.old.surface }
@@ -203,7 +199,7 @@ fn visit(
     if round.marks[base.index()] {
         return Ok(());
     }
-    search(round, base, cap, choice)
+    search(round, finder, base, cap, choice)
 }
 
 // What vertices are put into order by: the greatest caps first, those of one cap by their ranks.
@@ -283,12 +279,12 @@ fn list_rising(
 
 // Bars vertex 0 if it was searched without a cap, as it is before all rounds: what is found there
 // is kept already, and no round lists it.
-fn bar_first(round: &mut Round<'_, '_>, reached: &[u64])
+fn bar_first(round: &mut Round<'_, '_>, finder: &mut Finder<'_>, reached: &[u64])
     requires reached { length reached.now ≡ round.old.surface.now.mesh.now.vertices }
-    requires barring { IsBarring (surface_of round.old.surface.now) round.old.scout.finder
+    requires barring { IsBarring (surface_of round.old.surface.now) finder.old
         round.old.marks.items }
     requires done { AreDone reached.now round.old.marks.items }
-    ensures barring { IsBarring (surface_of round.old.surface.now) round.new.scout.finder
+    ensures barring { IsBarring (surface_of round.old.surface.now) finder.new
         round.new.marks.items }
     ensures done { AreDone reached.now round.new.marks.items }
     ensures surface { round.new.surface ≡ round.old.surface }
@@ -296,13 +292,14 @@ fn bar_first(round: &mut Round<'_, '_>, reached: &[u64])
 {
     round.surface.mesh.law_of_surface();
     if reached[0] == u64::MAX {
-        bar(round, VertexId::new(0));
+        bar(round, finder, VertexId::new(0));
     }
 }
 
 // Searches from the vertices of a list, whose caps fall, each as far as its cap.
 fn search_each(
     round: &mut Round<'_, '_>,
+    finder: &mut Finder<'_>,
     vertices: &[VertexId],
     caps: &[u64],
     reached: &mut [u64],
@@ -315,10 +312,12 @@ fn search_each(
     requires least { (v : ℕ) → v < length reached.old → round.old.least ≤ cap_at reached.old v }
     requires signed { AreSigned round.old.surface.now.mesh.now round.old.surface.now.signatures.now
         choice.old.width }
-    requires barring { IsBarring (surface_of round.old.surface.now) round.old.scout.finder
+    requires barring { IsBarring (surface_of round.old.surface.now) finder.old
         round.old.marks.items }
     requires kept { (bound : ℕ) → AreKeptUpTo (surface_of round.old.surface.now)
         (in_round reached.old round.old.marks.items bound) choice.old }
+    ensures barring { IsBarring (surface_of round.old.surface.now) finder.new
+        round.new.marks.items }
     ensures kept { OnOk result (AreKeptUpTo (surface_of round.old.surface.now)
         (in_caps reached.new) choice.new) }
     ensures each { OnOk result (All (λ v. cap_at caps.now v ≤ cap_at reached.new v) vertices.now) }
@@ -329,27 +328,38 @@ fn search_each(
     round.surface.mesh.law_of_surface();
     for v in vertices {
         let cap = caps[v.index()];
-        visit(round, *v, cap, choice)?;
+        visit(round, finder, *v, cap, choice)?;
         reached[v.index()] = reached[v.index()].max(cap);
     }
     Ok(())
 }
 
-/// Searches from all vertices whose caps are greater than how far they were searched, each as far as
-/// its cap. Those with the greatest caps are first, so that each search may bar the vertices of
-/// those before it. Up to a length nothing is left to find.
+// A length up to which all vertices were searched: nothing is left to find there.
+fn least_cap(reached: &[u64]) -> u64
+    ensures least { (v : ℕ) → v < length reached.now → result ≤ cap_at reached.now v }
+{
+    let mut least = u64::MAX;
+    for cap in reached {
+        least = least.min(*cap);
+    }
+    least
+}
+
+/// Searches from all vertices whose caps are greater than how far they were searched, each as far
+/// as its cap. Those with the greatest caps are first, so that each search may bar the vertices of
+/// those before it. In the end no vertex is barred, as before.
 pub(crate) fn search_rising(
     alloc: Global,
     surface: &SignedSurface<'_>,
+    finder: &mut Finder<'_>,
     caps: &[u64],
-    least: u64,
     reached: &mut [u64],
     choice: &mut Choice,
 ) -> Result<(), NoMemory>
+    requires finder { finder.old ≡ surface_of surface.now }
     requires lengths { length surface.now.lengths.now ≡ edge_count surface.now.mesh.now }
     requires caps { length caps.now ≡ surface.now.mesh.now.vertices }
     requires reached { length reached.old ≡ surface.now.mesh.now.vertices }
-    requires least { (v : ℕ) → v < length reached.old → least ≤ cap_at reached.old v }
     requires signed { AreSigned surface.now.mesh.now surface.now.signatures.now choice.old.width }
     requires kept { AreKeptUpTo (surface_of surface.now) (in_caps reached.old) choice.old }
     ensures kept { OnOk result (AreKeptUpTo (surface_of surface.now) (in_caps reached.new)
@@ -358,21 +368,20 @@ pub(crate) fn search_rising(
         cap_at caps.now v ≤ cap_at reached.new v) }
     ensures count { length reached.new ≡ length reached.old }
     ensures width { choice.new.width ≡ choice.old.width }
+    ensures same { finder.new ≡ finder.old }
 {
     surface.mesh.law_of_surface();
     surface.lengths.law_of_lengths();
     let vertices = list_rising(alloc, surface.mesh, caps, reached)?;
-    let scout = Scout {
-        finder: Finder::make(alloc, surface)?,
-        pace: Pace::new(),
-    };
     let mut round = Round {
         surface,
-        scout,
+        pace: Pace::new(),
         marks: vec![in alloc; false; reached.len()]?,
         found: Vec::new(alloc),
-        least,
+        least: least_cap(reached),
     };
-    bar_first(&mut round, reached);
-    search_each(&mut round, &vertices, caps, reached, choice)
+    bar_first(&mut round, finder, reached);
+    let done = search_each(&mut round, finder, &vertices, caps, reached, choice);
+    finder.unbar();
+    done
 }

@@ -95,7 +95,8 @@ fn round_caps(
     choice: &Choice,
 ) -> Result<Vec<u64>, NoMemory>
     requires reached { length reached.now ≡ plan.now.surface.now.mesh.now.vertices }
-    requires vertices { All (λ v. v < plan.now.surface.now.mesh.now.vertices) plan.now.vertices.now }
+    requires vertices { All (λ v. v < plan.now.surface.now.mesh.now.vertices)
+        plan.now.vertices.now }
     requires signed { AreSigned plan.now.surface.now.mesh.now plan.now.surface.now.signatures.now
         choice.now.width }
     ensures capped { IfOk result (λ caps.
@@ -120,21 +121,22 @@ fn raise_to(most: u64, reached: &mut [u64])
     }
 }
 
-// A round, which finds what is no longer than a length. Up to a lesser one nothing is left to find.
+// A round, which finds what is no longer than a length.
 fn run_round(
     alloc: Global,
     plan: &Plan<'_, '_, '_, '_>,
-    least: u64,
+    finder: &mut Finder<'_>,
     most: u64,
     reached: &mut [u64],
     choice: &mut Choice,
 ) -> Result<(), NoMemory>
+    requires finder { finder.old ≡ surface_of plan.now.surface.now }
     requires lengths { length plan.now.surface.now.lengths.now
         ≡ edge_count plan.now.surface.now.mesh.now }
-    requires vertices { All (λ v. v < plan.now.surface.now.mesh.now.vertices) plan.now.vertices.now }
+    requires vertices { All (λ v. v < plan.now.surface.now.mesh.now.vertices)
+        plan.now.vertices.now }
     requires met { MeetsAll plan.now.surface.now.mesh.now (is_among plan.now.vertices.now) }
     requires reached { length reached.old ≡ plan.now.surface.now.mesh.now.vertices }
-    requires least { (v : ℕ) → v < length reached.old → least ≤ cap_at reached.old v }
     requires signed { AreSigned plan.now.surface.now.mesh.now plan.now.surface.now.signatures.now
         choice.old.width }
     requires kept { AreKeptUpTo (surface_of plan.now.surface.now) (in_caps reached.old) choice.old }
@@ -143,11 +145,12 @@ fn run_round(
     ensures least { OnOk result ((v : ℕ) → v < length reached.new → most ≤ cap_at reached.new v) }
     ensures count { length reached.new ≡ length reached.old }
     ensures width { choice.new.width ≡ choice.old.width }
+    ensures same { finder.new ≡ finder.old }
 {
     plan.surface.mesh.law_of_surface();
     plan.surface.lengths.law_of_lengths();
     let caps = round_caps(alloc, plan, most, reached, choice)?;
-    search_rising(alloc, plan.surface, &caps, least, reached, choice)?;
+    search_rising(alloc, plan.surface, finder, &caps, reached, choice)?;
     raise_to(most, reached);
     Ok(())
 }
@@ -178,7 +181,8 @@ fn next_most(choice: &Choice, most: u64) -> u64
 
 // Whether as many loops are kept as may be, none of them much longer than a length.
 fn are_shorter(choice: &Choice, most: u64) -> bool
-    ensures shorter { result ≡ is_limit_below (limit_of choice.now) (min (most + most / 4) 18446744073709551615) }
+    ensures shorter { result ≡ is_limit_below (limit_of choice.now)
+        (min (most + most / 4) 18446744073709551615) }
 {
     match choice.limit() {
         Some(last) => last.length <= most.saturating_add(most / 4),
@@ -187,16 +191,18 @@ fn are_shorter(choice: &Choice, most: u64) -> bool
 }
 
 // Rounds that find short loops. What they keep makes the heights of edges low for those to come.
-// Tells up to which length nothing is left to find.
 fn run_short_rounds(
     alloc: Global,
     plan: &Plan<'_, '_, '_, '_>,
+    finder: &mut Finder<'_>,
     reached: &mut [u64],
     choice: &mut Choice,
-) -> Result<u64, NoMemory>
+) -> Result<(), NoMemory>
+    requires finder { finder.old ≡ surface_of plan.now.surface.now }
     requires lengths { length plan.now.surface.now.lengths.now
         ≡ edge_count plan.now.surface.now.mesh.now }
-    requires vertices { All (λ v. v < plan.now.surface.now.mesh.now.vertices) plan.now.vertices.now }
+    requires vertices { All (λ v. v < plan.now.surface.now.mesh.now.vertices)
+        plan.now.vertices.now }
     requires met { MeetsAll plan.now.surface.now.mesh.now (is_among plan.now.vertices.now) }
     requires reached { length reached.old ≡ plan.now.surface.now.mesh.now.vertices }
     requires signed { AreSigned plan.now.surface.now.mesh.now plan.now.surface.now.signatures.now
@@ -204,49 +210,50 @@ fn run_short_rounds(
     requires kept { AreKeptUpTo (surface_of plan.now.surface.now) (in_caps reached.old) choice.old }
     ensures kept { OnOk result (AreKeptUpTo (surface_of plan.now.surface.now) (in_caps reached.new)
         choice.new) }
-    ensures least { IfOk result (λ least. (v : ℕ) → v < length reached.new →
-        least ≤ cap_at reached.new v) }
     ensures count { length reached.new ≡ length reached.old }
     ensures width { choice.new.width ≡ choice.old.width }
+    ensures same { finder.new ≡ finder.old }
 {
-    let mut least = 0;
     let mut most = first_most(choice);
     for _round in 0..32 {
         if are_shorter(choice, most) {
-            return Ok(least);
+            return Ok(());
         }
-        run_round(alloc, plan, least, most, reached, choice)?;
-        least = most;
+        run_round(alloc, plan, finder, most, reached, choice)?;
         most = next_most(choice, most);
     }
-    Ok(least)
+    Ok(())
 }
 
 // Rounds up to the last, which finds all that is left.
 fn run_rounds(
     alloc: Global,
     plan: &Plan<'_, '_, '_, '_>,
+    finder: &mut Finder<'_>,
     reached: &mut [u64],
     choice: &mut Choice,
 ) -> Result<(), NoMemory>
+    requires finder { finder.old ≡ surface_of plan.now.surface.now }
     requires lengths { length plan.now.surface.now.lengths.now
         ≡ edge_count plan.now.surface.now.mesh.now }
-    requires vertices { All (λ v. v < plan.now.surface.now.mesh.now.vertices) plan.now.vertices.now }
+    requires vertices { All (λ v. v < plan.now.surface.now.mesh.now.vertices)
+        plan.now.vertices.now }
     requires met { MeetsAll plan.now.surface.now.mesh.now (is_among plan.now.vertices.now) }
     requires reached { length reached.old ≡ plan.now.surface.now.mesh.now.vertices }
     requires signed { AreSigned plan.now.surface.now.mesh.now plan.now.surface.now.signatures.now
         choice.old.width }
     requires kept { AreKeptUpTo (surface_of plan.now.surface.now) (in_caps reached.old) choice.old }
     requires full { IsLoopCount plan.now.surface.now.mesh.now choice.old.width }
-    ensures inside { OnOk result (All (λ s. s.candidate.base < plan.now.surface.now.mesh.now.vertices)
-        choice.new.kept) }
+    ensures inside { OnOk result (All
+        (λ s. s.candidate.base < plan.now.surface.now.mesh.now.vertices) choice.new.kept) }
     ensures places { OnOk result (HavePlacesOfBasis plan.now.surface.now.mesh.now
         plan.now.surface.now.lengths.now choice.new.kept) }
+    ensures same { finder.new ≡ finder.old }
 {
     plan.surface.mesh.law_of_surface();
     plan.surface.lengths.law_of_lengths();
-    let least = run_short_rounds(alloc, plan, reached, choice)?;
-    run_round(alloc, plan, least, u64::MAX, reached, choice)?;
+    run_short_rounds(alloc, plan, finder, reached, choice)?;
+    run_round(alloc, plan, finder, u64::MAX, reached, choice)?;
     choice.law_of_choice();
     Ok(())
 }
@@ -312,6 +319,6 @@ pub fn sufficient_loops(
             even: even_length(surface.lengths).is_some(),
         },
     };
-    run_rounds(alloc, &plan, &mut reached, &mut choice)?;
+    run_rounds(alloc, &plan, finder, &mut reached, &mut choice)?;
     Ok(choice)
 }

@@ -11,4 +11,5 @@ invariant-loop-v l = record {
   off : AgreeOff l.fn.links.mesh l.fn.links.lengths l.links.lengths (is_marked l.marks);
   no_shorter : AreNoShorter l.fn.links.mesh l.fn.links.lengths l.links.lengths;
   mesh : l.links.mesh ≡ l.fn.links.mesh;
+  given : l.links.given ≡ l.fn.links.given;
 }

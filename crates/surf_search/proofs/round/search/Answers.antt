@@ -10,7 +10,7 @@ use Rattle.surf_search.proofs.round.search.Goals as goal
 pub margin_above-margin-requires : goal.margin_above-margin-requires
 margin_above-margin-requires c =
     let r = c.args.round.now in
-    let g = r.scout.finder in
+    let g = c.args.finder.now in
     let at = barring_is (surface_of r.surface.now) g r.marks.items c.requires.barring in
     let width = c.args.choice.now.width in
     let signed = subst (λ (t : SurfaceTables). AreSigned t.mesh t.signs width) (sym at) c.requires.signed in
@@ -26,7 +26,7 @@ pub returns-then-far-eq0-clause-kept : goal.returns-then-far-eq0-clause-kept
 returns-then-far-eq0-clause-kept c =
     let r = c.args.round.now in
     let f = surface_of r.surface.now in
-    let g = r.scout.finder in
+    let g = c.args.finder.now in
     let b = c.requires.barring in
     let at = barring_is f g r.marks.items b in
     let old = c.args.choice.now in
@@ -44,7 +44,7 @@ pub returns-else-far-eq0-clause-kept : goal.returns-else-far-eq0-clause-kept
 returns-else-far-eq0-clause-kept c =
     let r = c.args.round.now in
     let f = surface_of r.surface.now in
-    let g = r.scout.finder in
+    let g = c.args.finder.now in
     let b = c.requires.barring in
     let at = barring_is f g r.marks.items b in
     let z = c.args.base in
@@ -91,8 +91,8 @@ returns-else-far-eq0-clause-barring c =
     let marks = c.mark_near.new.marks in
     let whole = written_back marks _ _ (omega (arith, c.mark_near.ensures.count, c.deref_mut.ensures.len)) in
     subst (λ (ms : List Bool). IsBarring f c.mark_near.new.self ms) (sym whole)
-    (barring_on f r.scout.finder c.keep_at.new.finder c.mark_near.new.self r.marks.items marks b c.keep_at.ensures.same
-    c.mark_near.ensures.mesh c.mark_near.ensures.signs
+    (barring_on f c.args.finder.now c.keep_at.new.finder c.mark_near.new.self r.marks.items marks b c.keep_at.ensures.same
+    c.mark_near.ensures.mesh c.mark_near.ensures.signs c.mark_near.ensures.given
     (c.mark_near.ensures.count ∙ ap (λ (ms : List Bool). length ms) c.deref_mut.ensures.value)
     (subst (λ (ms : List Bool). (v : ℕ) → IsTrue (is_marked ms v) → IsTrue (is_marked marks v)) c.deref_mut.ensures.value
     c.mark_near.ensures.stay) c.mark_near.ensures.off c.mark_near.ensures.no_shorter)
@@ -100,7 +100,7 @@ returns-else-far-eq0-clause-barring c =
 pub returns-else-far-eq0-clause-marked : goal.returns-else-far-eq0-clause-marked
 returns-else-far-eq0-clause-marked c =
     let r = c.args.round.now in
-    let g = r.scout.finder in
+    let g = c.args.finder.now in
     let z = c.args.base in
     let far = c.saturating_sub-far.result / 2 in
     let marks = c.mark_near.new.marks in

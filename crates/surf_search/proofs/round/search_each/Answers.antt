@@ -34,7 +34,7 @@ loop-v-preserved c =
       width = c.visit.ensures.width ∙ inv.width;
       count = length-set reached c.index-in-loop-v-2.result c.max.result ∙ inv.count;
       more = no_less_on c.args.reached.now reached new inv.more raised.no_less;
-      barring = subst (λ s. IsBarring (surface_of s.now) c.visit.new.round.scout.finder after) inv.surface c.in_ok-visit.ensures.barring;
+      barring = subst (λ s. IsBarring (surface_of s.now) c.visit.new.finder after) inv.surface c.visit.ensures.barring;
       each = λ k d l. elim (cases_lt k i) [
         | inl less ↦ let a = inv.each k d less in let b = raised.no_less (get_or vs k d) in omega (arith, a, b)
         | inr more ↦

@@ -8,7 +8,7 @@ invariant-loop-v l = record {
   width : l.choice.width ≡ l.fn.choice.width;
   count : length l.reached ≡ length l.fn.reached;
   more : AreNoLess l.fn.reached l.reached;
-  barring : IsBarring (surface_of l.fn.round.surface.now) l.round.scout.finder l.round.marks.items;
+  barring : IsBarring (surface_of l.fn.round.surface.now) l.finder l.round.marks.items;
   each : (k d : ℕ) → k < l.v-index → cap_at l.caps (get_or l.vertices k d) ≤ cap_at l.reached (get_or l.vertices k d);
   kept : (bound : ℕ) → ((k d : ℕ) → k < l.v-index → bound ≤ cap_at l.caps (get_or l.vertices k d)) →
       AreKeptUpTo (surface_of l.fn.round.surface.now) (in_round l.reached l.round.marks.items bound) l.choice;
