@@ -1,6 +1,7 @@
 -- Lists of vertices that every closed walk meets which isn't null.
-use Rattle.surf_basis.proofs.Common.{tree_of, LoopTables, AreCutVertices, HasSignedEnds, IsDividedBy, ℕ, List, sym, ◌∙◌, inl, inr, Mesh, ends, IsSurface, CotreeTables, cotree_of, is_among, AreSigned, among_contained}
+use Rattle.surf_basis.proofs.Common.{tree_of, LoopTables, AreCutVertices, HasSignedEnds, IsDividedBy, ℕ, List, sym, ◌∙◌, inl, inr, Mesh, ends, IsSurface, CotreeTables, cotree_of, is_among, AreSigned, among_contained, Contains-permutation, IsPermutation}
 use Rattle.surf_search.proofs.Common.{MeetsAll}
+use Rattle.surf_search.proofs.Searched.{among_contains}
 use Rattle.surf_surfaces.proofs.walks.SignedEndsLaws.{signed_ends_meet_all}
 use Rattle.surf_opening.proofs.cuts.OffTheCutMarked.{walks_are_null_or_meet_marked}
 use Rattle.surf_search.proofs.Climbed.{at_edge}
@@ -24,3 +25,10 @@ cut_meets mesh surface t divided vs cut walk closed some =
       | inl null ↦ absurd (some null)
       | inr there ↦ there
     ]
+
+-- what meets all does so in whatever order
+pub meets_in_any_order : (mesh : Mesh) (vs ws : List ℕ) → IsPermutation vs ws → MeetsAll mesh (is_among vs) →
+    MeetsAll mesh (is_among ws)
+meets_in_any_order mesh vs ws permuted meets walk closed some =
+    let (v, on, here) = meets walk closed some in
+    (v, on, among_contained ws v (Contains-permutation vs ws v permuted (among_contains vs v here)))

@@ -1,6 +1,5 @@
 //! The vertices from which the loops of a basis are searched.
 ghost use Rattle.std.specs.Prelude.{◌≡◌, ◌<◌, ℕ, All, IfOk, length};
-ghost use Rattle.std.specs.List.Sorted.{IsNonDecreasingBy};
 ghost use Rattle.surf_surfaces.specs.FewBases.{MeetsAll};
 ghost use Rattle.surf_surfaces.specs.Mesh.{Mesh};
 ghost use Rattle.surf_surfaces.specs.Surface.{edge_count};
@@ -8,7 +7,6 @@ ghost use Rattle.surf_tree.specs.Tables.{tree_of};
 ghost use Rattle.surf_loops.specs.Loops.{IsRooted};
 ghost use Rattle.surf_basis.specs.Cut.{AreCutVertices, AreToSearch, IsLeastSet, HasEnds, HasVertex, IsClosedUpward, IsDividedBy};
 ghost use Rattle.surf_search.specs.Found.{is_among};
-ghost use Rattle.surf_search.specs.Marks.{bits_backwards};
 ghost use Rattle.surf_search.specs.Passing.{is_marked};
 ghost use Rattle.surf_search.specs.Signing.{AreSigned};
 
@@ -18,7 +16,7 @@ use surf_base::{EdgeId, NoMemory, VertexId};
 use surf_lengths::Lengths;
 use surf_loops::LoopDesk;
 use surf_mesh::HalfMesh;
-use surf_search::{list_marked, scatter};
+use surf_search::list_marked;
 use surf_tree::{TreeDesk, even_length};
 
 // Marks a vertex and those on its way up to the base, as far as the first that is marked already.
@@ -65,19 +63,16 @@ fn cut_vertices(alloc: Global, mesh: &HalfMesh, desk: &LoopDesk) -> Result<Vec<V
     requires divided { IsDividedBy mesh.now desk.now }
     ensures inside { IfOk result (λ list. All (λ v. v < mesh.now.vertices) list.items) }
     ensures cut { IfOk result (λ list. AreCutVertices mesh.now desk.now list.items) }
-    ensures scattered { IfOk result (λ list. IsNonDecreasingBy bits_backwards list.items) }
 {
     let mut marked = vec![in alloc; false; mesh.vertices() as usize]?;
     mark_ways(mesh, desk.tree(), desk.cotree().left(), &mut marked);
-    let mut list = list_marked(alloc, &marked)?;
-    scatter(&mut list);
-    Ok(list)
+    list_marked(alloc, &marked)
 }
 
-/// Vertices of which every closed walk that isn't null meets one, in an order that scatters them.
-/// These are the vertices of a cut: they lie along shortest ways and close together, so that
-/// searches pass over many of them. Where all lengths are the same less is passed over, and the ends
-/// of edges with signatures are taken if they are fewer.
+/// Vertices of which every closed walk that isn't null meets one. These are the vertices of a cut:
+/// they lie along shortest ways and close together, so that searches pass over many of them. Where
+/// all lengths are the same less is passed over, and the ends of edges with signatures are taken if
+/// they are fewer.
 pub(crate) fn searched_vertices(
     alloc: Global,
     mesh: &HalfMesh,
@@ -89,7 +84,6 @@ pub(crate) fn searched_vertices(
     ensures inside { IfOk result (λ list. All (λ v. v < mesh.now.vertices) list.items) }
     ensures which { IfOk result (λ list. AreToSearch mesh.now lengths.now desk.now list.items) }
     ensures met { IfOk result (λ list. MeetsAll mesh.now (is_among list.items)) }
-    ensures scattered { IfOk result (λ list. IsNonDecreasingBy bits_backwards list.items) }
 {
     mesh.law_of_surface();
     let cut = cut_vertices(alloc, mesh, desk)?;

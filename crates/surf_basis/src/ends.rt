@@ -1,15 +1,13 @@
 //! Ends of the edges whose signatures aren't empty.
 ghost use Rattle.std.specs.Prelude.{◌≡◌, ◌≢◌, ◌<◌, ◌⊎◌, ℕ, false, true, All, IfOk, length, slice_index, slice_index_or};
-ghost use Rattle.std.specs.List.Sorted.{IsNonDecreasingBy};
 ghost use Rattle.surf_surfaces.specs.Surface.{edge_count};
-ghost use Rattle.surf_search.specs.Marks.{bits_backwards};
 ghost use Rattle.surf_basis.specs.Ends.{AreSignedEnds, HasMarkedEnd, IsBusierEnd};
 
 use std::alloc::Global;
 use surf_base::{EdgeId, NoMemory, VertexId};
 use surf_cotree::CotreeDesk;
 use surf_mesh::HalfMesh;
-use surf_search::{count_signed, lesser_first, list_marked, scatter};
+use surf_search::{count_signed, lesser_first, list_marked};
 
 // Marks the second of two vertices, unless the first is marked.
 fn mark_one(first: VertexId, second: VertexId, marked: &mut [bool])
@@ -52,9 +50,9 @@ fn mark_ends(mesh: &HalfMesh, signatures: &CotreeDesk, degrees: &[u32], marked: 
     }
 }
 
-// Ends of the edges whose signatures aren't empty, one of each edge at least, each once, in an
-// order that scatters them; each is the end of such an edge at which there are more of them. Every
-// closed walk that isn't null has such an edge, and so meets one of them.
+// Ends of the edges whose signatures aren't empty, one of each edge at least, each once; each is the
+// end of such an edge at which there are more of them. Every closed walk that isn't null has such an
+// edge, and so meets one of them.
 pub(crate) fn signed_ends(
     alloc: Global,
     mesh: &HalfMesh,
@@ -63,13 +61,10 @@ pub(crate) fn signed_ends(
     requires table { length signatures.now.signatures ≡ edge_count mesh.now }
     ensures inside { IfOk result (λ list. All (λ v. v < mesh.now.vertices) list.items) }
     ensures ends { IfOk result (λ list. AreSignedEnds mesh.now signatures.now list.items) }
-    ensures scattered { IfOk result (λ list. IsNonDecreasingBy bits_backwards list.items) }
 {
     let mut degrees = vec![in alloc; 0u32; mesh.vertices() as usize]?;
     count_signed(mesh, signatures, &mut degrees);
     let mut marked = vec![in alloc; false; mesh.vertices() as usize]?;
     mark_ends(mesh, signatures, &degrees, &mut marked);
-    let mut list = list_marked(alloc, &marked)?;
-    scatter(&mut list);
-    Ok(list)
+    list_marked(alloc, &marked)
 }

@@ -1,5 +1,6 @@
 //! A shortest cycle that doesn't separate the surface.
-ghost use Rattle.std.specs.Prelude.{ℕ, ◌≡◌, ◌<◌, ◌≤◌, ◌↔◌, All, None, IfOk, IfSome, length};
+ghost use Rattle.std.specs.Prelude.{ℕ, ◌≡◌, ◌<◌, ◌≤◌, ◌↔◌, List, All, None, IfOk, IfSome, IsPermutation, length};
+ghost use Rattle.std.specs.List.Sorted.{IsNonDecreasingBy};
 ghost use Rattle.std.specs.Option.{option_map};
 ghost use Rattle.surf_surfaces.specs.Surface.{edge_count, loop_count};
 ghost use Rattle.surf_surfaces.specs.Homology.{IsLoopCount};
@@ -8,8 +9,10 @@ ghost use Rattle.surf_surfaces.specs.Choice.{Trees, AreChosen, candidates, loops
 ghost use Rattle.surf_tree.specs.Grown.{IsGrown as IsTreeGrown};
 ghost use Rattle.surf_loops.specs.Loops.{AreLoopTables};
 ghost use Rattle.surf_search.specs.Found.{is_among};
+ghost use Rattle.surf_search.specs.Marks.{bits_backwards};
 ghost use Rattle.surf_search.specs.Signing.{AreSigned};
 ghost use Rattle.surf_basis.specs.Candidates.{first_head, loop_in, IsFirstPlace};
+ghost use Rattle.surf_basis.specs.Cut.{AreToSearch, IsDividedBy};
 ghost use Rattle.surf_basis.specs.Cycles.{first_of, IsFirstCandidate, IsShortestCycle, AllSeparate};
 ghost use Rattle.surf_base.specs.declared.limits.TheConstants.{MAX_LOOPS};
 
@@ -23,7 +26,7 @@ use surf_choice::Candidate;
 use surf_lengths::Lengths;
 use surf_loops::LoopDesk;
 use surf_mesh::HalfMesh;
-use surf_search::{SignedSurface, first_among};
+use surf_search::{SignedSurface, first_among, scatter};
 
 // The first candidate of a desk, if it has one.
 fn first_of(desk: &LoopDesk) -> Option<Candidate>
@@ -58,6 +61,27 @@ fn first_place(
     first_among(alloc, surface, vertices)
 }
 
+// The vertices from which is searched, in an order that scatters them. So a short loop is met by one
+// of the first searches, and those after it needn't go far.
+fn scattered_vertices(
+    alloc: Global,
+    mesh: &HalfMesh,
+    lengths: &Lengths,
+    desk: &LoopDesk,
+) -> Result<Vec<VertexId>, NoMemory>
+    requires divided { IsDividedBy mesh.now desk.now }
+    requires signed { (count : ℕ) × AreSigned mesh.now desk.now.cotree count }
+    ensures inside { IfOk result (λ list. All (λ v. v < mesh.now.vertices) list.items) }
+    ensures which { IfOk result (λ list. (vertices : List ℕ)
+        × AreToSearch mesh.now lengths.now desk.now vertices × IsPermutation vertices list.items) }
+    ensures met { IfOk result (λ list. MeetsAll mesh.now (is_among list.items)) }
+    ensures scattered { IfOk result (λ list. IsNonDecreasingBy bits_backwards list.items) }
+{
+    let mut vertices = searched_vertices(alloc, mesh, lengths, desk)?;
+    scatter(&mut vertices);
+    Ok(vertices)
+}
+
 // The length and the base of the first candidate at any base. What it is found by isn't kept, so
 // that its memory is free for the desk of its loop.
 fn place_of_first(
@@ -72,7 +96,7 @@ fn place_of_first(
     mesh.law_of_surface();
     lengths.law_of_lengths();
     let desk = signed_desk(alloc, mesh, lengths)?;
-    let vertices = searched_vertices(alloc, mesh, lengths, &desk)?;
+    let vertices = scattered_vertices(alloc, mesh, lengths, &desk)?;
     let count = desk.cotree().left().len();
     let signed = desk.into_cotree();
     let surface = SignedSurface {

@@ -1,4 +1,5 @@
 use Rattle.surf_basis.proofs.Common.{IsBusierEnd, ◌≡◌, ℕ, Bool, List, false, replicate, sym, ap, ◌∙◌, subst, inl, inr, arith, IsTrue, slice_index, get_or-replicate, edge_count, AreDegreesTo, degree_in, is_signed, is_marked, written_back, none_marked}
+use Rattle.std.proofs.lemmas.Result.{IfOk-weaker}
 use Rattle.surf_basis.proofs.Ended.{each_listed, ends_listed, busier_by_table}
 use Rattle.surf_basis.proofs.ends.signed_ends.Goals as goal
 
@@ -33,13 +34,8 @@ returns-clause-ends c =
     let s = c.args.signatures.now in
     let marked = c.mark_ends.new.marked in
     let table = c.deref-2.ensures.value ∙ written_back marked _ c.in_ok-marked.marked.len (omega (arith, c.mark_ends.auto.marked, c.deref_mut-2.ensures.len)) in
-    let last = written_back c.scatter.new.vertices _ c.in_ok-list.list.len (omega (arith, c.scatter.auto.vertices, c.deref_mut-3.ensures.len)) in
-    record {
-      each = ends_listed mesh c.vertices-2.ensures.surface s marked c.deref-2.result.now c.in_ok-list.list.items
-          c.deref_mut-3.result.now c.scatter.new.vertices _ table c.mark_ends.ensures.marks c.mark_ends.ensures.ends
-          c.in_ok-list.ensures.marked c.deref_mut-3.ensures.value c.scatter.ensures.same last;
-      only = each_listed (IsBusierEnd mesh s (degree_in mesh (is_signed s))) marked c.deref-2.result.now c.in_ok-list.list.items
-          c.deref_mut-3.result.now c.scatter.new.vertices _ table
-          c.in_ok-list.ensures.marked c.deref_mut-3.ensures.value c.scatter.ensures.same last
-          (busier c);
-    }
+    IfOk-weaker c.list_marked.result _ _ (λ list h. record {
+      each = ends_listed mesh c.vertices-2.ensures.surface s marked c.deref-2.result.now list.items table c.mark_ends.ensures.marks
+          c.mark_ends.ensures.ends h;
+      only = each_listed (IsBusierEnd mesh s (degree_in mesh (is_signed s))) marked c.deref-2.result.now list.items table h (busier c);
+    }) c.list_marked.ensures.marked
