@@ -32,9 +32,9 @@ pub use Rattle.surf_near.specs.declared.links.Link.{Link}
 pub use Rattle.surf_search.proofs.FoundLoops.{found_of}
 pub use Rattle.surf_search.specs.Found.{AreFirstFound, AreFirstTold, CoversAt, HasNoLater, is_first, precedes}
 pub use Rattle.surf_search.specs.Found.{AreFound, AreFoundBy, IsFirstAmong, IsFirstAt, IsFirstOf, IsFirstTold}
-pub use Rattle.surf_search.specs.Found.{IsFound, IsLinkOf, IsNext, IsReady, IsRise, IsTold, IsUnwantedAt, ListsAt}
+pub use Rattle.surf_search.specs.Found.{IsFound, IsNext, IsReady, IsTold, ListsAt}
 pub use Rattle.surf_search.specs.Found.{Search, SurfaceTables, earlier_of, first_from, first_with, is_among}
-pub use Rattle.surf_search.specs.Found.{is_between, is_earlier, is_wanted, may_matter, reached_at, search_of}
+pub use Rattle.surf_search.specs.Found.{is_between, is_earlier, is_wanted, reached_at, search_of}
 pub use Rattle.surf_search.specs.Found.{surface_of, told_loop}
 pub use Rattle.surf_search.specs.Marks.{AreMarkedIn, bits_backwards, by_degree, is_signed}
 pub use Rattle.surf_search.specs.Passing.{AreMarkedNear, AreNoShorter, AreShut, IsAhead, IsFirstIn, StaysFirst}

@@ -8,6 +8,8 @@ pub mod Counted
 pub mod FirstFound
 pub mod Firsts
 pub mod FoundLoops
+pub mod Keyed
+pub mod Kinded
 pub mod LeftOut
 pub mod Looped
 pub mod Marked
@@ -16,6 +18,7 @@ pub mod Numbered
 pub mod Passed
 pub mod PassedOver
 pub mod Placed
+pub mod Rising
 pub mod Rounded
 pub mod Searched
 pub mod Signed

@@ -1,5 +1,5 @@
 -- The classes of the ways from the base of a search, vertex by vertex.
-use Rattle.surf_search.proofs.Common.{◌≡◌, ◌≢◌, ℕ, ◌<◌, ◌≤◌, ◌+◌, true, false, List, length, slice_index, bit_xor, get_or, sym, ap, ◌∙◌, subst, arith, inl, inr, eq-eqb, ◌==◌, cases_eq, cases_lt, leb-true, nat_tests, get_or_read, Tree, Mesh, edge_count, IsSurface, ArePositive, edge_number, IsShortestTree, edge_signature, choice_exists, shortest_is_tree, way_class, way_none, way_more, CotreeTables, NearTables, IsNear, IsNearTo, WayTables, class_at, IsWayAt, AreWays, IsNumbered, HasParent}
+use Rattle.surf_search.proofs.Common.{◌≡◌, ◌≢◌, ℕ, ◌<◌, ◌≤◌, ◌+◌, true, false, List, length, slice_index, bit_xor, get_or, sym, ap, ◌∙◌, subst, arith, inl, inr, eq-eqb, ◌==◌, cases_eq, cases_lt, leb-true, le-leb, nat_tests, get_or_read, Tree, Mesh, edge_count, IsSurface, ArePositive, edge_number, IsShortestTree, edge_signature, choice_exists, shortest_is_tree, way_class, way_none, way_more, CotreeTables, NearTables, IsNear, IsNearTo, is_near, WayTables, class_at, IsWayAt, AreWays, IsNumbered, HasParent}
 use Rattle.std.specs.Int.Bits.{xor_comm}
 use Rattle.surf_search.proofs.Climbed.{at_edge}
 
@@ -42,6 +42,12 @@ module _ (mesh : Mesh) (lengths : List ℕ) (surface : IsSurface mesh) (positive
 
   pub settled_in : (i : ℕ) → i < length t.settled → slice_index t.settled i < mesh.vertices
   settled_in i l = let (tree, short) = one_tree in ((near.near tree short).inside i l).0
+
+  pub settled_near : (i : ℕ) → i < length t.settled → is_near t (slice_index t.settled i) ≡ true
+  settled_near i l = let (tree, short) = one_tree in
+      let n = near.near tree short in
+      let (v_in, within) = n.inside i l in
+      n.is_near (slice_index t.settled i) v_in ∙ le-leb (tree.rank (slice_index t.settled i)) far within
 
   -- so it has a class
   pub has_parent : (w : WayTables) (i v : ℕ) → i < length t.settled → v ≡ slice_index t.settled i →

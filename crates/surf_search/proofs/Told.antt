@@ -1,5 +1,5 @@
 -- What the tables of a search tell of the loops at its base.
-use Rattle.surf_search.proofs.Common.{◌≡◌, ◌≢◌, ℕ, zero, suc, ◌<◌, ◌≤◌, ◌+◌, ◌*◌, ◌/◌, ◌^◌, ◌++◌, ◌∷◌, [], true, not, ltb, eqb, eqb-true, cond, ◌-◌, List, length, get_or, map, slice_index, bit_xor, min, All, Contains, Option, Some, None, refl, sym, ap, ◌∙◌, subst, arith, inl, inr, IsTrue, ◌==◌, cases_Bool, cases_eq, cases_lt, and_parts, and_from, leb-true, le-leb, ltb-true, nat_tests, get_or_default, get_or_read, length-map, get_or-map, Split, Tree, Mesh, edge_count, ends, IsSurface, ArePositive, edge_length, edge_number, AreShortestTrees, loop_length, Trees, AreChosen, edge_signature, All-push, Contains-append_left, Contains-append_right, place_at, comes_sooner, least_base, least_on_way, shortest_trees, ends_are_near, zero_distance, least_tables_are_least, shortest_is_tree, shortest_is_shortest, way_class, loop_class, lengths_positive, ends_in, CotreeTables, Link, AreLinks, AreLinksAt, link_in, NearTables, IsNear, IsNearTo, is_near, link_all, Candidate, Signed, place_of, is_sought, AreDistances, radius_of, AreSignatures, WayTables, class_at, AreWays, Search, IsReady, IsLinkOf, IsRise, may_matter, is_between, told_loop, is_wanted, is_among, IsTold, ListsAt, IsFound, AreFoundBy, HasNoLater, precedes, CoversAt, AreFirstTold, ◌&&◌, ◌⊎◌, Bool, AllByRecursion, get_or-set_same, get_or-set_other, set, length-set, All-append, All-contains, All-from_recursion, Contains-get_or}
+use Rattle.surf_search.proofs.Common.{◌≡◌, ◌≢◌, ℕ, zero, suc, ◌<◌, ◌≤◌, ◌+◌, ◌*◌, ◌/◌, ◌^◌, ◌++◌, ◌∷◌, [], true, not, ltb, eqb, eqb-true, cond, ◌-◌, List, length, get_or, map, slice_index, bit_xor, min, All, Contains, Option, Some, None, refl, sym, ap, ◌∙◌, subst, arith, inl, inr, IsTrue, ◌==◌, cases_Bool, cases_eq, cases_lt, and_parts, and_from, leb-true, le-leb, ltb-true, nat_tests, get_or_default, get_or_read, length-map, get_or-map, Split, Tree, Mesh, edge_count, ends, IsSurface, ArePositive, edge_length, edge_number, AreShortestTrees, loop_length, Trees, AreChosen, edge_signature, All-push, Contains-append_left, Contains-append_right, place_at, comes_sooner, least_base, least_on_way, shortest_trees, ends_are_near, zero_distance, least_tables_are_least, shortest_is_tree, shortest_is_shortest, way_class, loop_class, lengths_positive, ends_in, CotreeTables, Link, AreLinks, NearTables, IsNear, IsNearTo, is_near, Candidate, Signed, place_of, is_sought, AreDistances, radius_of, AreSignatures, WayTables, class_at, AreWays, Search, IsReady, is_between, told_loop, is_wanted, is_among, IsTold, ListsAt, IsFound, AreFoundBy, HasNoLater, precedes, CoversAt, AreFirstTold, ◌&&◌, ◌⊎◌, Bool, AllByRecursion, get_or-set_same, get_or-set_other, set, length-set, All-append, All-contains, All-from_recursion, Contains-get_or}
 use Rattle.surf_search.specs.declared.told_loops.Ties.{Ties}
 use Rattle.surf_search.specs.declared.told_loops.Ties.TheVariants.{LesserBase, LesserEdge}
 use Rattle.std.proofs.lemmas.List.Elements.{All-set}
@@ -8,6 +8,9 @@ use Rattle.surf_lengths.specs.Lengths.{longest, AreLengths}
 use Rattle.surf_tree.proofs.LengthLaws.{short_lengths}
 use Rattle.surf_search.proofs.Climbed.{at_edge}
 use Rattle.surf_search.proofs.Searched.{among_contained, among_contains}
+use Rattle.surf_search.proofs.Rising.{starts_all}
+use Rattle.surf_search.specs.Rises.{AreStarts, IsRise}
+use Rattle.surf_search.specs.declared.rises.Rise.{Rise}
 
 -- ---- the ends of an edge in the tables
 
@@ -28,30 +31,14 @@ ready_end x u ready u_in near = record {
   fits = ready.fits u u_in near;
 }
 
--- both ends of a link to a greater vertex
-pub rise_ends : (x : Search) (v : ℕ) (link : Link) → IsReady x → IsRise x.mesh v link → is_between x link.edge ≡ true →
-    IsEnd x v × IsEnd x link.to
-rise_ends x v link ready rise between =
-    let (low, high) = and_parts (is_near x.near (ends x.mesh link.edge).0) (is_near x.near (ends x.mesh link.edge).1) between in (
-      ready_end x v ready rise.low_in (subst (λ (p : ℕ × ℕ). is_near x.near p.0 ≡ true) rise.ends_are low),
-      ready_end x link.to ready rise.high_in (subst (λ (p : ℕ × ℕ). is_near x.near p.1 ≡ true) rise.ends_are high),
+-- both ends of an edge
+pub rise_ends : (x : Search) (rise : Rise) → IsReady x → IsRise x.mesh rise → is_between x rise.edge ≡ true →
+    IsEnd x rise.low × IsEnd x rise.high
+rise_ends x rise ready is between =
+    let (low, high) = and_parts (is_near x.near (ends x.mesh rise.edge).0) (is_near x.near (ends x.mesh rise.edge).1) between in (
+      ready_end x rise.low ready is.low_in (subst (λ (p : ℕ × ℕ). is_near x.near p.0 ≡ true) is.ends_are low),
+      ready_end x rise.high ready is.high_in (subst (λ (p : ℕ × ℕ). is_near x.near p.1 ≡ true) is.ends_are high),
     )
-
--- a link that may matter leads to a greater vertex
-pub link_rises : (x : Search) (v : ℕ) (link : Link) → IsLinkOf x.mesh v link → may_matter x v link ≡ true →
-    IsRise x.mesh v link
-link_rises x v link is on =
-    let less : v < link.to = ltb-true v link.to (and_parts (ltb v link.to) _ on).0 in
-    let to_in = is.to_in in
-    record {
-      edge_in = is.edge_in;
-      low_in = omega (arith, less, to_in);
-      high_in = is.to_in;
-      ends_are = elim is.ends_are [
-        | inl up ↦ up.1
-        | inr down ↦ absurd (omega (arith, less, down.0))
-      ];
-    }
 
 pub sooner_size : (a b c d : ℕ) → comes_sooner (a, b) (c, d) ≡ true → c ≤ a
 sooner_size a b c d h = grind (arith, nat_tests)
@@ -166,65 +153,37 @@ told_pushed ties x limit found new e s each push is e_in on =
       no_later_self ties (found ++ s ∷ []) (told_loop x e) (Contains-append_right found (s ∷ []) (told_loop x e) (0, omega arith, is)),
     )
 
--- where the numbers of ways and two edges without a signature tell that two loops have one class
-pub alike_told : (x : Search) (e other u v low high : ℕ) → ends x.mesh e ≡ (u, v) → ends x.mesh other ≡ (low, high) →
-    (slice_index x.signs.signatures e == 0) ≡ true → (slice_index x.signs.signatures other == 0) ≡ true →
-    ((class_at x.ways u ≡ class_at x.ways low) × (class_at x.ways v ≡ class_at x.ways high))
-    ⊎ ((class_at x.ways u ≡ class_at x.ways high) × (class_at x.ways v ≡ class_at x.ways low)) →
-    (told_loop x e).signature ≡ (told_loop x other).signature
-alike_told x e other u v low high at there plain plain_too either =
-    let zero_is : slice_index x.signs.signatures e ≡ slice_index x.signs.signatures other =
-    eqb-true _ 0 plain ∙ sym (eqb-true _ 0 plain_too) in
-    let own : ℕ × ℕ → ℕ → ℕ = λ p s. bit_xor (bit_xor (class_at x.ways p.0) s) (class_at x.ways p.1) in
-    let n = slice_index x.signs.signatures other in
-    ap (λ p. own p (slice_index x.signs.signatures e)) at ∙ ap (own (u, v)) zero_is ∙ elim either [
-      | inl (first, second) ↦ ap (λ c. bit_xor (bit_xor c n) (class_at x.ways v)) first ∙ ap (bit_xor (bit_xor (class_at x.ways low) n)) second
-      | inr (first, second) ↦ ap (λ c. bit_xor (bit_xor c n) (class_at x.ways v)) first ∙ ap (bit_xor (bit_xor (class_at x.ways high) n)) second
-          ∙ xor_comm (bit_xor (class_at x.ways high) n) (class_at x.ways low) ∙ ap (bit_xor (class_at x.ways low)) (xor_comm (class_at x.ways high) n)
-          ∙ sym (xor_assoc (class_at x.ways low) n (class_at x.ways high))
-    ] ∙ sym (ap (λ p. own p n) there)
+-- ---- the edges with one lesser end, one after the other
 
--- ---- the links of a vertex, one after the other
-
--- what a list has after the first links of a vertex, and what it had before
-pub record IsListedAt (ties : Ties) (x : Search) (limit : Option Candidate) (v : ℕ) (links : List Link) (old found : List Signed) (k : ℕ) : Type 0 where
-  pub each : All (IsTold x limit) found
+-- what a list has of the edges between two numbers, and of what it had before
+pub record IsListedTo (ties : Ties) (x : Search) (limit : Option Candidate) (start : ℕ) (old found : List Signed) (e : ℕ) : Type 0 where
   pub kept : All (HasNoLater ties found) old
-  pub here : (j : ℕ) → j < k → (ends x.mesh (link_in links j).edge).0 ≡ v → is_wanted x limit (link_in links j).edge ≡ true →
-      HasNoLater ties found (told_loop x (link_in links j).edge)
+  pub here : (f : ℕ) → start ≤ f → f < e → is_wanted x limit f ≡ true → HasNoLater ties found (told_loop x f)
 
-pub listed_first : (ties : Ties) (x : Search) (limit : Option Candidate) (v : ℕ) (links : List Link) (old : List Signed) →
-    All (IsTold x limit) old → IsListedAt ties x limit v links old old 0
-listed_first ties x limit v links old told = record {
-  each = told;
-  kept = no_later_all ties old;
-  here = λ j l. absurd (omega arith);
-}
+module _ (ties : Ties) (x : Search) (limit : Option Candidate) (start : ℕ) (old : List Signed) where
+  pub listed_first : IsListedTo ties x limit start old old start
+  listed_first = record { kept = no_later_all ties old; here = λ f le l. absurd (omega (arith, le, l)) }
 
-module _ (ties : Ties) (x : Search) (limit : Option Candidate) (v : ℕ) (links : List Link) (old : List Signed) where
-  -- one more link
-  pub listed_more : (found new : List Signed) (k e : ℕ) → IsListedAt ties x limit v links old found k → (link_in links k).edge ≡ e →
-      All (IsTold x limit) new → All (HasNoLater ties new) found →
-      ((ends x.mesh e).0 ≡ v → is_wanted x limit e ≡ true → HasNoLater ties new (told_loop x e)) → IsListedAt ties x limit v links old new (k + 1)
-  listed_more found new k e h at each kept here = record {
-    each = each;
+  -- one more edge
+  pub listed_more : (found new : List Signed) (e n : ℕ) → IsListedTo ties x limit start old found e → n ≡ e → All (HasNoLater ties new) found →
+      (is_wanted x limit n ≡ true → HasNoLater ties new (told_loop x n)) → IsListedTo ties x limit start old new (e + 1)
+  listed_more found new e n h at kept here = record {
     kept = λ i d l. no_later_on ties found new (get_or old i d) kept (h.kept i d l);
-    here = λ j l low on. elim (cases_lt j k) [
-      | inl less ↦ no_later_on ties found new (told_loop x (link_in links j).edge) kept (h.here j less low on)
-      | inr more ↦
-          let same : e ≡ (link_in links j).edge = sym at ∙ ap (λ n. (link_in links n).edge) (let is : k ≡ j = omega arith in is) in
-          subst (λ n. HasNoLater ties new (told_loop x n)) same
-          (here (ap (λ n. (ends x.mesh n).0) same ∙ low) (ap (is_wanted x limit) same ∙ on))
+    here = λ f le l on. elim (cases_eq f e) [
+      | inl same ↦
+          let is : n ≡ f = at ∙ sym same in
+          subst (λ n. HasNoLater ties new (told_loop x n)) is (here (ap (is_wanted x limit) is ∙ on))
+      | inr ne ↦ no_later_on ties found new (told_loop x f) kept (h.here f le (omega arith) on)
     ];
   }
 
   -- all of them
-  pub listed_all : (lengths : List ℕ) (found : List Signed) (k : ℕ) → IsListedAt ties x limit v links old found k →
-      length links ≤ k → AreLinksAt x.mesh lengths v links → CoversAt ties x limit v found
-  listed_all lengths found k h past are e e_in low on =
-      let (j, l, is) = link_all x.mesh lengths v links are e e_in (inl low) in
-      subst (λ n. HasNoLater ties found (told_loop x n)) is
-      (h.here j (omega arith) (ap (λ n. (ends x.mesh n).0) is ∙ low) (ap (is_wanted x limit) is ∙ on))
+  pub listed_all : (found : List Signed) (e v : ℕ) (starts : List ℕ) → IsListedTo ties x limit start old found e →
+      AreStarts x.mesh starts → v < x.mesh.vertices → start ≡ slice_index starts v → slice_index starts (v + 1) ≤ e →
+      CoversAt ties x limit v found
+  listed_all found e v starts h are v_in from past f f_in low on =
+      let (after, below) = starts_all x.mesh starts v f are v_in f_in low in
+      h.here f (omega (arith, from, after)) (omega (arith, below, past)) on
 
 -- the edges at one more vertex
 pub lists_more : (ties : Ties) (x : Search) (limit : Option Candidate) (settled : List ℕ) (i v : ℕ) (old new : List Signed) →

@@ -15,17 +15,22 @@ use Rattle.surf_surfaces.specs.Choice.{Trees, AreChosen}
 use Rattle.surf_surfaces.specs.FewBases.{place_at, least_base, IsFirstFound}
 use Rattle.surf_cotree.specs.Tables.{CotreeTables}
 use Rattle.surf_near.specs.Near.{NearTables, AreNearTables, is_near}
-use Rattle.surf_near.specs.declared.links.Link.{Link}
 use Rattle.surf_choice.specs.declared.candidate.Candidate.{Candidate}
 use Rattle.surf_choice.specs.declared.candidate.Signed.{Signed}
-use Rattle.surf_choice.specs.Candidates.{Chosen, earlier, signed_earlier, independent_of}
+use Rattle.surf_choice.specs.Candidates.{Chosen, earlier, signed_earlier, independent_of, signatures}
 use Rattle.surf_choice.specs.Places.{place_of, order_of, is_sought}
 use Rattle.surf_search.specs.declared.reached.Reached.{Reached}
+use Rattle.surf_search.specs.declared.rises.Rise.{Rise}
 use Rattle.surf_search.specs.declared.surface.SignedSurface.{SignedSurface}
 use Rattle.surf_search.specs.declared.told_loops.Ties.{Ties}
 use Rattle.surf_search.specs.declared.told_loops.Ties.TheVariants.{LesserBase, LesserEdge}
 use Rattle.surf_search.specs.Signing.{AreSignatures}
+use Rattle.surf_search.specs.Keys.{IsKey, IsNoted, key_class}
+use Rattle.surf_search.specs.Kinds.{AreKinds}
+use Rattle.surf_search.specs.Rises.{AreStarts}
 use Rattle.surf_search.specs.Ways.{WayTables, class_at}
+use Rattle.surf_search.specs.declared.keys.Key.{Key}
+use Rattle.surf_search.specs.declared.keys.Noted.{Noted}
 
 -- ---- what a search says of an edge
 
@@ -90,34 +95,31 @@ abbrev pub is_wanted : Search → Option Candidate → ℕ → Bool
 is_wanted x limit e =
     is_between x e && (is_sought limit (place_of (told_loop x e).candidate) && not ((told_loop x e).signature == 0))
 
--- a vertex isn't the lesser end of the edge, or no limit makes its loop wanted
-abbrev pub IsUnwantedAt : Search → ℕ → ℕ → Type 0
-IsUnwantedAt x v e = (limit : Option Candidate) → (ends x.mesh e).0 ≡ v → is_wanted x limit e ≡ true → ⊥
+-- no limit makes the loop of an edge wanted
+abbrev pub IsUnwanted : Search → ℕ → Type 0
+IsUnwanted x e = (limit : Option Candidate) → is_wanted x limit e ≡ true → ⊥
 
--- a link is an edge of a vertex, with the other end
-pub record IsLinkOf (mesh : Mesh) (v : ℕ) (link : Link) : Type 0 where
-  pub edge_in : link.edge < edge_count mesh
-  pub to_in : link.to < mesh.vertices
-  pub ends_are : ((v < link.to) × (ends mesh link.edge ≡ (v, link.to)))
-      ⊎ ((link.to < v) × (ends mesh link.edge ≡ (link.to, v)))
+-- the greater end of an edge was reached, and the ways to its ends differ in class by their numbers or it has a signature
+abbrev pub may_matter : Search → Rise → Bool
+may_matter x rise =
+    is_near x.near rise.high && not ((slice_index x.signs.signatures rise.edge == 0)
+    && (slice_index x.ways.numbers rise.low == slice_index x.ways.numbers rise.high))
 
--- from the lesser end of its edge to the greater one
-pub record IsRise (mesh : Mesh) (v : ℕ) (link : Link) : Type 0 where
-  pub edge_in : link.edge < edge_count mesh
-  pub low_in : v < mesh.vertices
-  pub high_in : link.to < mesh.vertices
-  pub ends_are : ends mesh link.edge ≡ (v, link.to)
+-- the tables of what was reached are ready, and those of its surface
+pub record IsSearched (r : Reached) : Type 0 where
+  pub ready : IsReady (reached_at r)
+  pub links : r.links.now.mesh ≡ r.surface.now.mesh.now
+  pub kinds : AreKinds r.surface.now.signatures.now r.kinds.now
+  pub starts : AreStarts r.surface.now.mesh.now r.rises.now
 
--- for each edge whether its signature is empty
-abbrev pub plain_edges : CotreeTables → List Bool
-plain_edges s = map (λ n. n == 0) s.signatures
+-- a vertex that was reached
+abbrev pub IsReachedAt : Reached → ℕ → Type 0
+IsReachedAt r v = (v < r.surface.now.mesh.now.vertices) × IsTrue (is_near r.desk.now v)
 
--- a link leads to a greater vertex that was reached too, and the two differ in class by their numbers or the edge has a
--- signature
-abbrev pub may_matter : Search → ℕ → Link → Bool
-may_matter x v link =
-    nat_lt v link.to && (not ((slice_index x.ways.numbers v == slice_index x.ways.numbers link.to)
-    && (slice_index x.signs.signatures link.edge == 0)) && is_near x.near link.to)
+-- a key is that of the loop of an edge, and tells its class
+pub record IsKeyOf (r : Reached) (e : ℕ) (key : Key) : Type 0 where
+  pub numbers : IsKey r.ways.now r.kinds.now key
+  pub class : key_class r.ways.now r.kinds.now key ≡ (told_loop (reached_at r) e).signature
 
 -- a candidate is what is told of an edge whose loop is wanted
 pub record IsTold (x : Search) (limit : Option Candidate) (c : Signed) : Type 0 where
@@ -138,6 +140,11 @@ is_first LesserEdge c d = nat_le c.edge d.edge
 -- one candidate is no later than another
 abbrev pub precedes : Ties → Candidate → Candidate → Bool
 precedes ties c d = nat_lt c.length d.length || ((c.length == d.length) && is_first ties c d)
+
+-- candidates are told, and what was noted of keys is right
+pub record AreListed (r : Reached) (limit : Option Candidate) (found : List Signed) (keys : List Noted) : Type 0 where
+  pub each : All (IsTold (reached_at r) limit) found
+  pub noted : All (IsNoted r.ways.now r.kinds.now (signatures found)) keys
 
 -- a loop is listed that has the class of another and is no later
 pub record HasNoLater (ties : Ties) (found : List Signed) (s : Signed) : Type 0 where

@@ -4,26 +4,29 @@ ghost use Rattle.surf_surfaces.specs.Surface.{edge_count, IsSurface};
 ghost use Rattle.surf_surfaces.specs.Walk.{ArePositive};
 ghost use Rattle.surf_firsts.specs.Near.{AgreeOff};
 ghost use Rattle.surf_near.specs.Links.{IsShutAt};
-ghost use Rattle.surf_near.specs.Near.{AreNearTables, IsNear};
+ghost use Rattle.surf_near.specs.Near.{AreNearTables, IsNear, is_near};
 ghost use Rattle.surf_search.specs.Walks.{AreWalksOf, AreWrittenTo, IsMeasured};
-ghost use Rattle.surf_search.specs.Found.{surface_of, AreFirstFound, IsFirstAt, plain_edges};
+ghost use Rattle.surf_search.specs.Found.{surface_of, AreFirstFound, IsFirstAt};
+ghost use Rattle.surf_search.specs.Kinds.{AreKinds};
 ghost use Rattle.surf_search.specs.Passing.{is_marked, AreMarkedNear, AreNoShorter, AreShut};
 ghost use Rattle.surf_search.specs.Places.{AreDistances, radius_of};
 ghost use Rattle.surf_search.specs.Ways.{AreWays};
 
 use crate::foremost::first_told;
+use crate::keys::Keys;
+use crate::kinds::Kinds;
 use crate::marks::mark_all;
 use crate::reached::{Reached, radius};
+use crate::rises::Rises;
 use crate::surface::SignedSurface;
 use crate::told_loops::{Ties, list_loops};
 use crate::walks::{greatest_at, no_walks, write_walks};
-use crate::ways::{SLOTS, Ways};
+use crate::ways::Ways;
 use std::alloc::Global;
 use std::marker::Model;
-use surf_base::{EdgeId, NoMemory, VertexId};
+use surf_base::{NoMemory, VertexId};
 use surf_choice::{Candidate, Signed};
-use surf_cotree::CotreeDesk;
-use surf_mesh::{HalfMesh, Walk};
+use surf_mesh::Walk;
 use surf_near::{Links, NearDesk};
 
 /// The tables of one search at a time: what it reached, and the classes of the ways there.
@@ -39,7 +42,7 @@ impl Tables {
         &mut self,
         surface: &SignedSurface<'_>,
         links: &Links<'_>,
-        plain: &[bool],
+        kinds: &Kinds,
         base: VertexId,
         limit: &Option<Candidate>,
     ) -> Result<(), NoMemory>
@@ -47,12 +50,13 @@ impl Tables {
         requires links { links.now.mesh ≡ surface.now.mesh.now }
         requires signatures { length surface.now.signatures.now.signatures
             ≡ edge_count surface.now.mesh.now }
-        requires plain { plain.now ≡ plain_edges surface.now.signatures.now }
+        requires kinds { AreKinds surface.now.signatures.now kinds.now }
         requires made { AreNearTables surface.now.mesh.now self.old.desk }
         requires numbers { length self.old.ways.numbers ≡ surface.now.mesh.now.vertices }
         ensures near { IsNear surface.now.mesh.now links.now.lengths base (radius_of limit.now)
             self.new.desk }
-        ensures settled { All (λ v. v < surface.now.mesh.now.vertices) self.new.desk.settled }
+        ensures settled { All (λ v. (v < surface.now.mesh.now.vertices)
+            × IsTrue (is_near self.new.desk v)) self.new.desk.settled }
         ensures ways { OnOk result (AreWays surface.now.mesh.now links.now.lengths base
             surface.now.signatures.now self.new.desk self.new.ways) }
         ensures numbers { length self.new.ways.numbers ≡ surface.now.mesh.now.vertices }
@@ -60,7 +64,7 @@ impl Tables {
         surface.mesh.law_of_surface();
         links.law_of_links();
         self.desk.grow(links, base, radius(limit));
-        self.ways.sum(surface, links, &self.desk, plain, base)
+        self.ways.sum(surface, links, &self.desk, kinds, base)
     }
 }
 
@@ -71,15 +75,18 @@ pub struct Finder<'a> {
     surface: SignedSurface<'a>,
     links: Links<'a>,
     tables: Tables,
-    plain: Vec<bool>,
-    slots: Vec<usize>,
+    kinds: Kinds,
+    rises: Rises,
+    keys: Keys,
 }
 
 impl<'a> Model for Finder<'a> {
     ghost use Rattle.std.specs.Prelude.{◌≡◌, length};
     ghost use Rattle.surf_surfaces.specs.Surface.{edge_count};
     ghost use Rattle.surf_near.specs.Near.{AreNearTables};
-    ghost use Rattle.surf_search.specs.Found.{SurfaceTables, plain_edges};
+    ghost use Rattle.surf_search.specs.Found.{SurfaceTables};
+    ghost use Rattle.surf_search.specs.Kinds.{AreKinds};
+    ghost use Rattle.surf_search.specs.Rises.{AreStarts};
 
     ghost Value = { SurfaceTables };
 
@@ -94,8 +101,8 @@ impl<'a> Model for Finder<'a> {
         × AreNearTables f.surface.mesh.now f.tables.desk
         × (length f.tables.ways.numbers ≡ f.surface.mesh.now.vertices)
         × (length f.surface.signatures.now.signatures ≡ edge_count f.surface.mesh.now)
-        × (f.plain.items ≡ plain_edges f.surface.signatures.now)
-        × (length f.slots.items ≡ 1024) };
+        × AreKinds f.surface.signatures.now f.kinds
+        × AreStarts f.surface.mesh.now f.rises };
 }
 
 // Lists the distances of the vertices that a search has settled, in its order.
@@ -109,23 +116,6 @@ fn list_distances(alloc: Global, desk: &NearDesk) -> Result<Vec<u64>, NoMemory>
         list.push(desk.distance(*v))?;
     }
     Ok(list)
-}
-
-// Lists for each edge whether its signature is empty.
-fn plain_edges(
-    alloc: Global,
-    mesh: &HalfMesh,
-    signatures: &CotreeDesk,
-) -> Result<Vec<bool>, NoMemory>
-    requires table { length signatures.now.signatures ≡ edge_count mesh.now }
-    ensures plain { IfOk result (λ plain. plain.items ≡ plain_edges signatures.now) }
-{
-    mesh.law_of_surface();
-    let mut plain = Vec::with_capacity(alloc, mesh.edges() as usize)?;
-    for e in 0..mesh.edges() {
-        plain.push(signatures.signature(EdgeId::new(e)).is_empty())?;
-    }
-    Ok(plain)
 }
 
 impl<'a> Finder<'a> {
@@ -144,15 +134,17 @@ impl<'a> Finder<'a> {
         let links = Links::make(alloc, surface.mesh, surface.lengths)?;
         let tables = Tables {
             desk: NearDesk::make(alloc, surface.mesh)?,
-            ways: Ways::make(alloc, &surface)?,
+            ways: Ways::make(alloc, surface.mesh)?,
         };
-        let plain = plain_edges(alloc, surface.mesh, surface.signatures)?;
+        let kinds = Kinds::make(alloc, &surface)?;
+        let rises = Rises::make(alloc, surface.mesh)?;
         Ok(Finder {
             surface,
             links,
             tables,
-            plain,
-            slots: vec![in alloc; 0; SLOTS]?,
+            kinds,
+            rises,
+            keys: Keys::make(alloc)?,
         })
     }
 
@@ -174,16 +166,16 @@ impl<'a> Finder<'a> {
         self.surface.mesh.law_of_surface();
         self.links.law_of_links();
         self.tables
-            .reach(&self.surface, &self.links, &self.plain, base, limit)?;
+            .reach(&self.surface, &self.links, &self.kinds, base, limit)?;
         let reached = Reached {
             surface: &self.surface,
             links: &self.links,
+            kinds: &self.kinds,
+            rises: &self.rises,
             desk: &self.tables.desk,
             ways: &self.tables.ways,
-            plain: &self.plain,
-            ties,
         };
-        list_loops(&reached, limit, &mut self.slots, found)
+        list_loops(&reached, ties, limit, &mut self.keys, found)
     }
 
     /// How many vertices the surface has.
@@ -329,14 +321,14 @@ impl<'a> Finder<'a> {
         self.surface.mesh.law_of_surface();
         self.links.law_of_links();
         self.tables
-            .reach(&self.surface, &self.links, &self.plain, base, limit)?;
+            .reach(&self.surface, &self.links, &self.kinds, base, limit)?;
         let reached = Reached {
             surface: &self.surface,
             links: &self.links,
+            kinds: &self.kinds,
+            rises: &self.rises,
             desk: &self.tables.desk,
             ways: &self.tables.ways,
-            plain: &self.plain,
-            ties: Ties::LesserBase,
         };
         Ok(first_told(&reached, limit))
     }

@@ -1,12 +1,8 @@
 //! Hashes of signatures, such that the hash of a sum is the sum of the hashes. Whether two
 //! signatures are the same is asked of the signatures: only the time that it takes depends on
 //! hashes.
-ghost use Rattle.std.specs.Prelude.{◌≡◌, ◌<◌, length};
-ghost use Rattle.surf_surfaces.specs.Surface.{edge_count};
+ghost use Rattle.std.specs.Prelude.{◌<◌};
 
-use crate::surface::SignedSurface;
-use std::alloc::Global;
-use surf_base::{EdgeId, NoMemory};
 use surf_bits::Bits;
 
 // The hash of a number: one of 64 bits that look as if they were thrown. (The steps are those of
@@ -32,7 +28,7 @@ fn hash_of_word(word: u64, place: u32) -> u64
 }
 
 // The hash of a set of numbers: the sum of those of its numbers. Most words of most sets are zero.
-fn hash_of(set: &Bits<'_>) -> u64 {
+pub(crate) fn hash_of(set: &Bits<'_>) -> u64 {
     let words = set.words();
     let mut hash = 0;
     for place in 0..words.len() {
@@ -41,27 +37,4 @@ fn hash_of(set: &Bits<'_>) -> u64 {
         }
     }
     hash
-}
-
-/// Lists the hash of each edge's signature.
-pub(crate) fn edge_hashes(alloc: Global, surface: &SignedSurface<'_>) -> Result<Vec<u64>, NoMemory>
-    requires table { length surface.now.signatures.now.signatures
-        ≡ edge_count surface.now.mesh.now }
-{
-    surface.mesh.law_of_surface();
-    let mut hashes = Vec::with_capacity(alloc, surface.mesh.edges() as usize)?;
-    for e in 0..surface.mesh.edges() {
-        let signature = surface.signatures.signature(EdgeId::new(e));
-        hashes.push(hash_of(&signature))?;
-    }
-    Ok(hashes)
-}
-
-/// The hash of an edge's signature. One that isn't listed has any.
-pub(crate) fn hash_at(hashes: &[u64], edge: EdgeId) -> u64 {
-    if edge.index() < hashes.len() {
-        hashes[edge.index()]
-    } else {
-        0
-    }
 }

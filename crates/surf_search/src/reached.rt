@@ -1,28 +1,31 @@
 //! What a search from one vertex tells of the loop of an edge.
-ghost use Rattle.std.specs.Prelude.{◌≡◌, ◌<◌, ◌==◌, slice_index, false, true, IsTrue, min, length};
-ghost use Rattle.surf_near.specs.Links.{IsLinkAt};
+ghost use Rattle.std.specs.Prelude.{◌≡◌, true, false, IsTrue, min};
 ghost use Rattle.surf_choice.specs.Places.{place_of, is_sought};
-ghost use Rattle.surf_search.specs.Found.{IsReady, IsLinkOf, IsRise, IsUnwantedAt, reached_at, is_between, told_loop, may_matter, plain_edges};
+ghost use Rattle.surf_search.specs.Found.{IsSearched, IsReachedAt, IsUnwanted, IsKeyOf, reached_at, is_between, told_loop, may_matter};
+ghost use Rattle.surf_search.specs.Keys.{IsKey, key_class};
 ghost use Rattle.surf_search.specs.Places.{radius_of};
+ghost use Rattle.surf_search.specs.Rises.{IsRise};
 
+use crate::keys::Key;
+use crate::kinds::Kinds;
+use crate::rises::{Rise, Rises};
 use crate::surface::SignedSurface;
-use crate::told_loops::Ties;
 use crate::ways::Ways;
-use surf_base::{EdgeId, VertexId};
+use surf_base::VertexId;
 use surf_bits::Signature;
 use surf_choice::Candidate;
-use surf_near::{Link, Links, NearDesk};
+use surf_near::{Links, NearDesk};
 
-/// What a search from a base has reached, on a surface whose vertices have links. Lengths are those
-/// of the links. Of loops of one class and one length it says which is listed.
+/// What a search from a base has reached, on a surface whose edges have kinds and are in the order
+/// of their lesser ends. Lengths are those of the links.
 #[derive(Clone, Copy)]
 pub(crate) struct Reached<'r, 'a> {
     pub surface: &'r SignedSurface<'a>,
     pub links: &'r Links<'a>,
+    pub kinds: &'r Kinds,
+    pub rises: &'r Rises,
     pub desk: &'r NearDesk,
     pub ways: &'r Ways,
-    pub plain: &'r [bool],
-    pub ties: Ties,
 }
 
 // Whether a candidate comes before a limit, by length and then by base.
@@ -57,67 +60,62 @@ fn lesser(u: VertexId, v: VertexId) -> VertexId
     if u.number() <= v.number() { u } else { v }
 }
 
-// Whether both ends of a link were reached.
-pub(crate) fn is_between(reached: &Reached<'_, '_>, v: VertexId, link: &Link) -> bool
-    requires ready { IsReady (reached_at reached.now) }
-    requires rise { IsRise reached.now.surface.now.mesh.now v link.now }
-    ensures between { result ≡ is_between (reached_at reached.now) link.now.edge }
+// Whether the greater end of an edge was reached too, and its loop may be other than null. Most
+// edges are passed over here, by what stands at their two ends.
+pub(crate) fn may_matter(reached: &Reached<'_, '_>, rise: &Rise) -> bool
+    requires searched { IsSearched reached.now }
+    requires rise { IsRise reached.now.surface.now.mesh.now rise.now }
+    requires low { IsReachedAt reached.now rise.now.low }
+    ensures matters { result ≡ may_matter (reached_at reached.now) rise.now }
+    ensures off { result ≡ false → IsUnwanted (reached_at reached.now) rise.now.edge }
+    ensures between { result ≡ true → IsTrue (is_between (reached_at reached.now) rise.now.edge) }
 {
-    reached.desk.is_near(v) && reached.desk.is_near(link.to)
+    reached.desk.is_near(rise.high)
+        && !(reached.kinds.kind(rise.edge) == 0 && reached.ways.are_alike(rise.low, rise.high))
 }
 
-// The length and the least base of the loop of a link's edge, where both ends were reached.
-pub(crate) fn candidate_of(reached: &Reached<'_, '_>, v: VertexId, link: &Link) -> Candidate
-    requires ready { IsReady (reached_at reached.now) }
-    requires links { reached.now.links.now.mesh ≡ reached.now.surface.now.mesh.now }
-    requires rise { IsRise reached.now.surface.now.mesh.now v link.now }
-    requires link { IsLinkAt reached.now.links.now v link.now }
-    requires between { IsTrue (is_between (reached_at reached.now) link.now.edge) }
-    ensures told { result ≡ (told_loop (reached_at reached.now) link.now.edge).candidate }
+// The length and the least base of the loop of an edge whose ends were reached.
+pub(crate) fn candidate_of(reached: &Reached<'_, '_>, rise: &Rise) -> Candidate
+    requires searched { IsSearched reached.now }
+    requires rise { IsRise reached.now.surface.now.mesh.now rise.now }
+    requires between { IsTrue (is_between (reached_at reached.now) rise.now.edge) }
+    ensures told { result ≡ (told_loop (reached_at reached.now) rise.now.edge).candidate }
 {
     let desk = reached.desk;
-    let length = reached.links.length(v, link);
+    let length = u64::from(reached.links.length_of(rise.edge));
     Candidate {
-        length: desk.distance(v) + u64::from(length) + desk.distance(link.to),
-        base: lesser(desk.least(v), desk.least(link.to)),
-        edge: link.edge,
+        length: desk.distance(rise.low) + length + desk.distance(rise.high),
+        base: lesser(desk.least(rise.low), desk.least(rise.high)),
+        edge: rise.edge,
     }
 }
 
-// The class of the loop of a link's edge, where both ends were reached.
-pub(crate) fn class_of(reached: &Reached<'_, '_>, v: VertexId, link: &Link) -> Signature
-    requires ready { IsReady (reached_at reached.now) }
-    requires rise { IsRise reached.now.surface.now.mesh.now v link.now }
-    requires between { IsTrue (is_between (reached_at reached.now) link.now.edge) }
-    ensures told { result ≡ (told_loop (reached_at reached.now) link.now.edge).signature }
+// The key of the loop of an edge whose ends were reached.
+pub(crate) fn key_of(reached: &Reached<'_, '_>, rise: &Rise) -> Key
+    requires searched { IsSearched reached.now }
+    requires rise { IsRise reached.now.surface.now.mesh.now rise.now }
+    requires between { IsTrue (is_between (reached_at reached.now) rise.now.edge) }
+    ensures key { IsKeyOf reached.now rise.now.edge result }
 {
-    let mut class = reached.ways.class(v).copy();
-    class.add(reached.surface.signatures.signature(link.edge));
-    class.add(reached.ways.class(link.to).bits());
+    let low = reached.ways.number(rise.low);
+    let high = reached.ways.number(rise.high);
+    Key::new(low, high, reached.kinds.kind(rise.edge))
+}
+
+// The class of a loop, by its key.
+pub(crate) fn class_of(reached: &Reached<'_, '_>, key: &Key) -> Signature
+    requires key { IsKey reached.now.ways.now reached.now.kinds.now key.now }
+    ensures class { result ≡ key_class reached.now.ways.now reached.now.kinds.now key.now }
+{
+    let mut class = reached.ways.class(key.low).copy();
+    class.add(reached.kinds.signature(key.kind).bits());
+    class.add(reached.ways.class(key.high).bits());
     class
 }
 
-// Whether the signature of an edge is empty.
-pub(crate) fn is_plain(reached: &Reached<'_, '_>, edge: EdgeId) -> bool
-    requires plain { reached.now.plain.now ≡ plain_edges reached.now.surface.now.signatures.now }
-    requires edge { edge < length reached.now.surface.now.signatures.now.signatures }
-    ensures plain { result
-        ≡ (slice_index reached.now.surface.now.signatures.now.signatures edge == 0) }
+// The hash of that class.
+pub(crate) fn hash_of(reached: &Reached<'_, '_>, key: &Key) -> u64
+    requires key { IsKey reached.now.ways.now reached.now.kinds.now key.now }
 {
-    reached.plain[edge.index()]
-}
-
-// Whether a link leads to a greater vertex that was reached too, and its loop may be other than
-// null. Most links are passed over here, by what stands at their two vertices.
-pub(crate) fn may_matter(reached: &Reached<'_, '_>, v: VertexId, link: &Link) -> bool
-    requires ready { IsReady (reached_at reached.now) }
-    requires plain { reached.now.plain.now ≡ plain_edges reached.now.surface.now.signatures.now }
-    requires ends { IsLinkOf reached.now.surface.now.mesh.now v link.now }
-    ensures matters { result ≡ may_matter (reached_at reached.now) v link.now }
-    ensures off { result ≡ false → IsUnwantedAt (reached_at reached.now) v link.now.edge }
-    ensures rise { result ≡ true → IsRise reached.now.surface.now.mesh.now v link.now }
-{
-    v.number() < link.to.number()
-        && !(reached.ways.are_alike(v, link.to) && is_plain(reached, link.edge))
-        && reached.desk.is_near(link.to)
+    reached.ways.hash(key.low) ^ reached.kinds.hash(key.kind) ^ reached.ways.hash(key.high)
 }

@@ -1,34 +1,16 @@
 //! The loops of edges that a search tells of, of each class the first.
-ghost use Rattle.std.specs.Prelude.{◌≡◌, ◌<◌, ◌⊎◌, All, IfSome, IsTrue, OnOk, length, true};
-ghost use Rattle.surf_near.specs.Links.{IsLinkAt};
-ghost use Rattle.surf_surfaces.specs.Surface.{edge_count};
-ghost use Rattle.surf_search.specs.Found.{IsReady, IsRise, reached_at, is_between, is_wanted, told_loop, plain_edges, is_first, precedes, HasNoLater, IsTold, CoversAt, AreFirstTold};
+ghost use Rattle.std.specs.Prelude.{◌≡◌, ◌⊎◌, true, All, IsTrue, OnOk};
+ghost use Rattle.surf_choice.specs.Candidates.{signatures};
+ghost use Rattle.surf_search.specs.Found.{IsSearched, IsReachedAt, AreListed, reached_at, is_between, is_wanted, told_loop, is_first, precedes, HasNoLater, CoversAt, AreFirstTold};
+ghost use Rattle.surf_search.specs.Keys.{IsKey, IsNoted, IsStanding, key_class};
+ghost use Rattle.surf_search.specs.Rises.{IsRise};
 
-use crate::reached::{
-    Reached, candidate_of, class_of, is_between, is_plain, is_sought, may_matter,
-};
+use crate::keys::{Key, Keys, Noted};
+use crate::reached::{Reached, candidate_of, class_of, hash_of, is_sought, key_of, may_matter};
+use crate::rises::{Rise, rise_of};
 use surf_base::{EdgeId, NoMemory, VertexId};
+use surf_bits::Signature;
 use surf_choice::{Candidate, Signed};
-use surf_near::Link;
-
-// Whether the loop of a link's edge has the class of another edge's loop, as far as the numbers of
-// the ways to their ends tell.
-fn is_alike(reached: &Reached<'_, '_>, v: VertexId, link: &Link, other: EdgeId) -> bool
-    requires ready { IsReady (reached_at reached.now) }
-    requires plain { reached.now.plain.now ≡ plain_edges reached.now.surface.now.signatures.now }
-    requires rise { IsRise reached.now.surface.now.mesh.now v link.now }
-    requires other { other < edge_count reached.now.surface.now.mesh.now }
-    ensures alike { IsTrue result → (told_loop (reached_at reached.now) link.now.edge).signature
-        ≡ (told_loop (reached_at reached.now) other).signature }
-{
-    reached.surface.mesh.law_of_surface();
-    let (low, high) = reached.surface.mesh.ends(other);
-    if !is_plain(reached, link.edge) || !is_plain(reached, other) {
-        return false;
-    }
-    reached.ways.are_pairs_alike(v, link.to, low, high)
-        || reached.ways.are_pairs_alike(v, link.to, high, low)
-}
 
 /// Which of the loops of one class and one length is listed: that of the lesser base, or that of
 /// the lesser edge.
@@ -36,6 +18,15 @@ fn is_alike(reached: &Reached<'_, '_>, v: VertexId, link: &Link, other: EdgeId) 
 pub enum Ties {
     LesserBase,
     LesserEdge,
+}
+
+// What is known of the class of a loop: that it was met, and the place of the listed loop that has
+// it, or none where it is null; or that it is null; or that it is new, and not null.
+#[derive(Drop)]
+enum Standing {
+    Met(Option<usize>),
+    Null,
+    New(Signature),
 }
 
 // Whether a candidate is first of two of one length.
@@ -70,82 +61,96 @@ fn take_first(ties: Ties, candidate: Candidate, listed: &mut Signed)
     }
 }
 
-// Adds the loop of a link's edge whose ends were reached, where it isn't null and comes before a
-// limit. One of its class that is listed may stand for it, or it for that. Slots tell where one of
-// its class may be listed. What they tell is checked, so they may be of earlier searches.
+// What is known of the class of a key: where its slot tells of it or of one with the same sum, that.
+fn look_up(reached: &Reached<'_, '_>, key: &Key, keys: &Keys, found: &[Signed]) -> Standing
+    requires key { IsKey reached.now.ways.now reached.now.kinds.now key.now }
+    requires noted { All (IsNoted reached.now.ways.now reached.now.kinds.now (signatures found.now))
+        keys.now }
+    ensures standing { IsStanding (key_class reached.now.ways.now reached.now.kinds.now key.now)
+        (signatures found.now) result }
+{
+    let hash = hash_of(reached, key);
+    if let Some(noted) = keys.find(hash, key) {
+        return Standing::Met(noted.place);
+    }
+    let class = class_of(reached, key);
+    if class.bits().is_empty() {
+        return Standing::Null;
+    }
+    if let Some(k) = keys.place(hash) {
+        if class.bits().is_same(&found[k].signature.bits()) {
+            return Standing::Met(Some(k));
+        }
+    }
+    Standing::New(class)
+}
+
+// Adds the loop of an edge whose ends were reached, where it isn't null and comes before a limit.
+// One of its class that is listed may stand for it, or it for that.
 fn add_loop(
     reached: &Reached<'_, '_>,
+    ties: Ties,
     limit: &Option<Candidate>,
-    v: VertexId,
-    link: &Link,
-    slots: &mut [usize],
+    rise: &Rise,
+    keys: &mut Keys,
     found: &mut Vec<Signed>,
 ) -> Result<(), NoMemory>
-    requires ready { IsReady (reached_at reached.now) }
-    requires links { reached.now.links.now.mesh ≡ reached.now.surface.now.mesh.now }
-    requires plain { reached.now.plain.now ≡ plain_edges reached.now.surface.now.signatures.now }
-    requires rise { IsRise reached.now.surface.now.mesh.now v link.now }
-    requires link { IsLinkAt reached.now.links.now v link.now }
-    requires between { IsTrue (is_between (reached_at reached.now) link.now.edge) }
-    requires slots { length slots.old ≡ 1024 }
-    requires each { All (IsTold (reached_at reached.now) limit.now) found.old.items }
-    ensures each { OnOk result (All (IsTold (reached_at reached.now) limit.now) found.new.items) }
-    ensures kept { OnOk result (All (HasNoLater reached.now.ties found.new.items) found.old.items) }
-    ensures here { OnOk result (is_wanted (reached_at reached.now) limit.now link.now.edge ≡ true
-        → HasNoLater reached.now.ties found.new.items (told_loop (reached_at reached.now) link.now.edge)) }
+    requires searched { IsSearched reached.now }
+    requires rise { IsRise reached.now.surface.now.mesh.now rise.now }
+    requires between { IsTrue (is_between (reached_at reached.now) rise.now.edge) }
+    requires listed { AreListed reached.now limit.now found.old.items keys.old }
+    ensures listed { OnOk result (AreListed reached.now limit.now found.new.items keys.new) }
+    ensures kept { OnOk result (All (HasNoLater ties found.new.items) found.old.items) }
+    ensures here { OnOk result (is_wanted (reached_at reached.now) limit.now rise.now.edge ≡ true
+        → HasNoLater ties found.new.items (told_loop (reached_at reached.now) rise.now.edge)) }
 {
-    let candidate = candidate_of(reached, v, link);
+    let candidate = candidate_of(reached, rise);
     if !is_sought(&candidate, limit) {
         return Ok(());
     }
-    let slot = reached.ways.slot(v, link.to, link.edge);
-    let k = slots[slot];
-    if k < found.len() && is_alike(reached, v, link, found[k].candidate.edge) {
-        take_first(reached.ties, candidate, &mut found[k]);
-        return Ok(());
+    let key = key_of(reached, rise);
+    match look_up(reached, &key, keys, found) {
+        Standing::Met(None) => Ok(()),
+        Standing::Met(Some(k)) => {
+            take_first(ties, candidate, &mut found[k]);
+            Ok(())
+        }
+        Standing::Null => keys.note(hash_of(reached, &key), Noted { key, place: None }),
+        Standing::New(signature) => {
+            let place = Some(found.len());
+            keys.note(hash_of(reached, &key), Noted { key, place })?;
+            found.push(Signed {
+                candidate,
+                from: reached.desk.base(),
+                signature,
+            })?;
+            Ok(())
+        }
     }
-    let signature = class_of(reached, v, link);
-    if signature.bits().is_empty() {
-        return Ok(());
-    }
-    if k < found.len() && signature.bits().is_same(&found[k].signature.bits()) {
-        take_first(reached.ties, candidate, &mut found[k]);
-        return Ok(());
-    }
-    slots[slot] = found.len();
-    found.push(Signed {
-        candidate,
-        from: reached.desk.base(),
-        signature,
-    })?;
-    Ok(())
 }
 
-// Adds the loops of the edges at a vertex of which it is the lesser end, where they aren't null and
-// come before a limit, or others of their classes that are no later.
+// Adds the loops of the edges of which a vertex that was reached is the lesser end, where they
+// aren't null and come before a limit, or others of their classes that are no later.
 fn list_at(
     reached: &Reached<'_, '_>,
+    ties: Ties,
     limit: &Option<Candidate>,
     v: VertexId,
-    slots: &mut [usize],
+    keys: &mut Keys,
     found: &mut Vec<Signed>,
 ) -> Result<(), NoMemory>
-    requires ready { IsReady (reached_at reached.now) }
-    requires links { reached.now.links.now.mesh ≡ reached.now.surface.now.mesh.now }
-    requires plain { reached.now.plain.now ≡ plain_edges reached.now.surface.now.signatures.now }
-    requires vertex { v < reached.now.surface.now.mesh.now.vertices }
-    requires slots { length slots.old ≡ 1024 }
-    requires each { All (IsTold (reached_at reached.now) limit.now) found.old.items }
-    ensures each { OnOk result (All (IsTold (reached_at reached.now) limit.now) found.new.items) }
-    ensures kept { OnOk result (All (HasNoLater reached.now.ties found.new.items) found.old.items) }
-    ensures here { OnOk result (CoversAt reached.now.ties (reached_at reached.now) limit.now v found.new.items) }
+    requires searched { IsSearched reached.now }
+    requires vertex { IsReachedAt reached.now v }
+    requires listed { AreListed reached.now limit.now found.old.items keys.old }
+    ensures listed { OnOk result (AreListed reached.now limit.now found.new.items keys.new) }
+    ensures kept { OnOk result (All (HasNoLater ties found.new.items) found.old.items) }
+    ensures here { OnOk result (CoversAt ties (reached_at reached.now) limit.now v found.new.items) }
 {
-    reached.surface.mesh.law_of_surface();
-    for link in reached.links.at(v) {
-        if may_matter(reached, v, link) {
-            if is_between(reached, v, link) {
-                add_loop(reached, limit, v, link, slots, found)?;
-            }
+    let (start, past) = reached.rises.at(v);
+    for e in start..past {
+        let rise = rise_of(reached.surface.mesh, EdgeId::new(e));
+        if may_matter(reached, &rise) {
+            add_loop(reached, ties, limit, &rise, keys, found)?;
         }
     }
     Ok(())
@@ -155,21 +160,19 @@ fn list_at(
 // settled: those that are left out have one of their class there that is no later.
 pub(crate) fn list_loops(
     reached: &Reached<'_, '_>,
+    ties: Ties,
     limit: &Option<Candidate>,
-    slots: &mut [usize],
+    keys: &mut Keys,
     found: &mut Vec<Signed>,
 ) -> Result<(), NoMemory>
-    requires ready { IsReady (reached_at reached.now) }
-    requires links { reached.now.links.now.mesh ≡ reached.now.surface.now.mesh.now }
-    requires plain { reached.now.plain.now ≡ plain_edges reached.now.surface.now.signatures.now }
-    requires slots { length slots.old ≡ 1024 }
-    requires settled { All (λ v. v < reached.now.surface.now.mesh.now.vertices)
-        reached.now.desk.now.settled }
-    ensures told { OnOk result (AreFirstTold reached.now.ties (reached_at reached.now) limit.now found.new.items) }
+    requires searched { IsSearched reached.now }
+    requires settled { All (IsReachedAt reached.now) reached.now.desk.now.settled }
+    ensures told { OnOk result (AreFirstTold ties (reached_at reached.now) limit.now found.new.items) }
 {
     found.clear();
+    keys.clear();
     for v in reached.desk.settled() {
-        list_at(reached, limit, *v, slots, found)?;
+        list_at(reached, ties, limit, *v, keys, found)?;
     }
     Ok(())
 }

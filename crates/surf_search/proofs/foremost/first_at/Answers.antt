@@ -1,56 +1,58 @@
-use Rattle.surf_search.proofs.Common.{◌≡◌, ◌∙◌, true, ap, sym, subst, arith, get_or_default, Mesh, ends, Link, AreLinksAt, link_in, item_there, reached_at, is_wanted, IsLinkOf}
-use Rattle.surf_search.proofs.Passed.{link_of_row}
-use Rattle.surf_search.proofs.Firsts.{first_begun, first_same, first_more, first_settled}
+use Rattle.surf_search.proofs.Common.{◌≡◌, ◌<◌, ◌≤◌, ◌+◌, ◌∙◌, IsTrue, slice_index, sym, subst, arith, is_near, reached_at}
+use Rattle.surf_search.proofs.Rising.{low_is}
+use Rattle.surf_search.proofs.Firsts.{IsFirstListedTo, first_begun, first_same, first_more, first_settled}
 use Rattle.surf_search.proofs.foremost.first_at.Goals as goal
 use Rattle.surf_search.proofs.foremost.first_at.Goals.{then-may_matter, else-may_matter}
 
-pub loop-link-init : goal.loop-link-init
-loop-link-init c = λ old told is. first_begun (reached_at c.args.reached.now) c.args.limit.now c.args.v c.at-link-items.result.now old c.args.before told is
+pub loop-e-init : goal.loop-e-init
+loop-e-init c =
+    let x = reached_at c.args.reached.now in
+    let start = slice_index c.args.reached.now.rises.now c.args.v in
+    record {
+      from = omega (arith, c.at-start.ensures.first);
+      to = λ old told is.
+          subst (λ e. IsFirstListedTo x c.args.limit.now start old e c.args.before) (sym c.at-start.ensures.first)
+          (first_begun x c.args.limit.now start old c.args.before told is);
+    }
 
-pub may_matter-requires-clause-ends : goal.may_matter-requires-clause-ends
-may_matter-requires-clause-ends c =
-    let net = c.args.reached.now.links.now in
-    let mesh = c.args.reached.now.surface.now.mesh.now in
-    let items = c.at-link-items.result.now in
-    let row : AreLinksAt mesh net.lengths c.args.v items = subst (λ (m : Mesh). AreLinksAt m net.lengths c.args.v items) c.requires.links c.at-link-items.ensures.row in
-    link_of_row mesh net.lengths c.args.v items c.law_of_surface.ensures.surface.is_mesh row c.loop-link.link-index (omega (arith, c.loop-link-test.true)) c.link-item.result c.link-item.is
+pub may_matter-requires-clause-low : goal.may_matter-requires-clause-low
+may_matter-requires-clause-low c =
+    let r = c.args.reached.now in
+    let low : c.rise_of-rise.result.low ≡ c.args.v = low_is r.surface.now.mesh.now r.rises.now c.args.v c.loop-e.e c.at-start.result.1
+    c.rise_of-rise.result c.requires.searched.starts c.requires.vertex.0 c.loop-e.invariant.from c.loop-e-test.true c.at-start.ensures.past
+    c.rise_of-rise.ensures.rise (c.rise_of-rise.ensures.edge ∙ c.new.ensures) in
+    subst (λ n. (n < r.surface.now.mesh.now.vertices) × IsTrue (is_near r.desk.now n)) (sym low) c.requires.vertex
 
-pub first_with-first-requires-clause-link : goal.first_with-first-requires-clause-link
-first_with-first-requires-clause-link c =
-    let net = c.args.reached.now.links.now in
-    item_there net c.args.v c.at-link-items.result.now c.at-link-items.ensures.links c.loop-link.link-index (omega (arith, c.loop-link-test.true)) c.link-item.result c.link-item.is
-
-pub loop-link-preserved : goal.loop-link-preserved
-loop-link-preserved c = λ old told begun.
+pub loop-e-preserved : goal.loop-e-preserved
+loop-e-preserved c =
+    let h = c.loop-e.invariant in
     let x = reached_at c.args.reached.now in
     let limit = c.args.limit.now in
-    let net = c.args.reached.now.links.now in
-    let mesh = c.args.reached.now.surface.now.mesh.now in
-    let items = c.at-link-items.result.now in
-    let k = c.loop-link.link-index in
-    let l = c.link-item.result in
-    let row : AreLinksAt mesh net.lengths c.args.v items = subst (λ (m : Mesh). AreLinksAt m net.lengths c.args.v items) c.requires.links c.at-link-items.ensures.row in
-    let link : IsLinkOf mesh c.args.v l =
-    link_of_row mesh net.lengths c.args.v items c.law_of_surface.ensures.surface.is_mesh row k (omega (arith, c.loop-link-test.true)) l c.link-item.is in
-    let is : link_in items k ≡ l = get_or_default items k (record { to = 0; length = 0; edge = 0 }) l (omega (arith, c.loop-link-test.true)) ∙ sym c.link-item.is in
-    let at : (link_in items k).edge ≡ l.edge = ap (λ (y : Link). y.edge) is in
-    let was = c.loop-link.invariant old told begun in
+    let start = slice_index c.args.reached.now.rises.now c.args.v in
+    let from : slice_index c.args.reached.now.rises.now c.args.v ≤ c.loop-e.e + 1 = omega (arith, h.from) in
+    let edge = c.rise_of-rise.result.edge in
+    let at : c.rise_of-rise.result.edge ≡ c.loop-e.e = c.rise_of-rise.ensures.edge ∙ c.new.ensures in
     elim c.if-may_matter.branch [
       | then-may_matter w ↦
-          rw w.first-is (first_more x limit c.args.v items old k l.edge c.loop-link.first w.first_with-first.result was at link.edge_in w.first_with-first.ensures.first)
+          rw w.first-is (record {
+            from = from;
+            to = λ old told is.
+                first_more x limit start old c.loop-e.e edge c.loop-e.first w.first_with-first.result (h.to old told is) at
+                c.rise_of-rise.ensures.rise.edge_in w.first_with-first.ensures.first;
+          })
       | else-may_matter w ↦
-          rw w.first-is (first_same x limit c.args.v items old k c.loop-link.first was
-          (λ low on. c.may_matter.ensures.off w.if-may_matter.false limit (ap (λ n. (ends mesh n).0) (sym at) ∙ low)
-          (subst (λ n. is_wanted x limit n ≡ true) at on)))
+          rw w.first-is (record {
+            from = from;
+            to = λ old told is.
+                first_same x limit start old c.loop-e.e edge c.loop-e.first (h.to old told is) at
+                (c.may_matter.ensures.off w.if-may_matter.false limit);
+          })
     ]
 
 pub returns : goal.returns
-returns c =
-    let net = c.args.reached.now.links.now in
-    let items = c.at-link-items.result.now in
-    record {
-      first = λ count is told.
-          first_settled (reached_at c.args.reached.now) c.args.limit.now c.args.v items net.lengths count c.loop-link.link-index c.args.before c.loop-link.first told is
-          (c.loop-link.invariant told.found told.each told.is_first) (omega arith)
-          (subst (λ (m : Mesh). AreLinksAt m net.lengths c.args.v items) c.requires.links c.at-link-items.ensures.row);
-    }
+returns c = record {
+  first = λ count is told.
+      first_settled (reached_at c.args.reached.now) c.args.limit.now c.args.v c.loop-e.e c.args.reached.now.rises.now count c.args.before
+      c.loop-e.first told is c.requires.searched.starts c.requires.vertex.0 (c.loop-e.invariant.to told.found told.each told.is_first)
+      (omega (arith, c.at-start.ensures.past, c.loop-e-test.false));
+}

@@ -1,6 +1,11 @@
-use Rattle.surf_search.specs.Found.{reached_at}
-use Rattle.surf_search.proofs.Told.{IsListedAt}
+use Rattle.surf_search.proofs.Common.{◌≤◌, slice_index}
+use Rattle.surf_search.specs.Found.{AreListed, reached_at}
+use Rattle.surf_search.proofs.Told.{IsListedTo}
 use Rattle.surf_search.proofs.told_loops.list_at.Given as goal
 
-abbrev pub invariant-loop-link : goal.invariant-loop-link
-invariant-loop-link l = IsListedAt l.reached.ties (reached_at l.reached) l.limit l.v l.link-items l.fn.found.items l.found.items l.link-index
+abbrev pub invariant-loop-e : goal.invariant-loop-e
+invariant-loop-e l = record {
+  from : slice_index l.reached.rises.now l.fn.v ≤ l.e;
+  listed : AreListed l.reached l.limit l.found.items l.keys;
+  to : IsListedTo l.ties (reached_at l.reached) l.limit (slice_index l.reached.rises.now l.fn.v) l.fn.found.items l.found.items l.e;
+}

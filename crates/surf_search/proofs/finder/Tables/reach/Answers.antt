@@ -1,5 +1,5 @@
-use Rattle.surf_search.proofs.Common.{◌<◌, refl, subst, get_or_default, radius_of}
-use Rattle.surf_search.proofs.Numbered.{settled_in}
+use Rattle.surf_search.proofs.Common.{◌<◌, IsTrue, refl, subst, get_or_default, radius_of, is_near}
+use Rattle.surf_search.proofs.Numbered.{settled_in, settled_near}
 use Rattle.surf_search.proofs.Told.{links_positive, near_there}
 use Rattle.surf_search.proofs.finder.Tables.reach.Goals as goal
 
@@ -17,6 +17,10 @@ returns-clause-settled c = λ k d l.
     let positive = links_positive mesh net.mesh net.lengths net.rows c.requires.links c.law_of_links.ensures.links in
     let near = near_there mesh net.mesh net.lengths net.lengths c.args.base (radius_of c.args.limit.now) c.radius.result
     t c.requires.links refl c.radius.ensures.radius c.grow.ensures.near in
-    subst (λ n. n < mesh.vertices) (get_or_default t.settled k 0 d l)
-    (settled_in mesh net.lengths c.law_of_surface.ensures.surface positive c.args.base (radius_of c.args.limit.now) c.requires.base
-    c.args.surface.now.signatures.now t near k l)
+    let surface = c.law_of_surface.ensures.surface in
+    let far = radius_of c.args.limit.now in
+    let s = c.args.surface.now.signatures.now in
+    subst (λ n. (n < mesh.vertices) × IsTrue (is_near t n)) (get_or_default t.settled k 0 d l) (
+      settled_in mesh net.lengths surface positive c.args.base far c.requires.base s t near k l,
+      settled_near mesh net.lengths surface positive c.args.base far c.requires.base s t near k l,
+    )

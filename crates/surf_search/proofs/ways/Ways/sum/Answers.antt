@@ -3,8 +3,8 @@ use Rattle.surf_search.proofs.Numbered.{item_settled, settled_in, has_parent, wa
 use Rattle.surf_search.proofs.Told.{links_positive}
 use Rattle.surf_search.proofs.ways.Ways.sum.Goals as goal
 
-pub number-requires-clause-vertex : goal.number-requires-clause-vertex
-number-requires-clause-vertex c =
+pub add-requires-clause-vertex : goal.add-requires-clause-vertex
+add-requires-clause-vertex c =
     let mesh = c.args.surface.now.mesh.now in
     let lengths = c.args.links.now.lengths in
     let near = c.requires.reached.near in
@@ -13,8 +13,8 @@ number-requires-clause-vertex c =
     let inside = settled_in mesh lengths c.law_of_surface.ensures.surface positive c.args.base c.requires.reached.far c.requires.base c.args.surface.now.signatures.now c.args.desk.now near c.loop-v.v-index it.0 in
     omega (arith, it.1, inside, c.loop-v.invariant.count)
 
-pub number-requires-clause-parents : goal.number-requires-clause-parents
-number-requires-clause-parents c =
+pub add-requires-clause-parents : goal.add-requires-clause-parents
+add-requires-clause-parents c =
     let mesh = c.args.surface.now.mesh.now in
     let lengths = c.args.links.now.lengths in
     let near = c.requires.reached.near in
@@ -23,8 +23,8 @@ number-requires-clause-parents c =
     let inside = settled_in mesh lengths c.law_of_surface.ensures.surface positive c.args.base c.requires.reached.far c.requires.base c.args.surface.now.signatures.now c.args.desk.now near c.loop-v.v-index it.0 in
     omega (arith, it.1, inside, near.made.parents)
 
-pub number-requires-clause-ups : goal.number-requires-clause-ups
-number-requires-clause-ups c =
+pub add-requires-clause-ups : goal.add-requires-clause-ups
+add-requires-clause-ups c =
     let mesh = c.args.surface.now.mesh.now in
     let lengths = c.args.links.now.lengths in
     let near = c.requires.reached.near in
@@ -33,8 +33,8 @@ number-requires-clause-ups c =
     let inside = settled_in mesh lengths c.law_of_surface.ensures.surface positive c.args.base c.requires.reached.far c.requires.base c.args.surface.now.signatures.now c.args.desk.now near c.loop-v.v-index it.0 in
     omega (arith, it.1, inside, near.made.ups)
 
-pub number-requires-clause-parent : goal.number-requires-clause-parent
-number-requires-clause-parent c =
+pub add-requires-clause-parent : goal.add-requires-clause-parent
+add-requires-clause-parent c =
     let mesh = c.args.surface.now.mesh.now in
     let lengths = c.args.links.now.lengths in
     let positive = links_positive mesh c.args.links.now.mesh lengths c.args.links.now.rows c.requires.links c.law_of_links.ensures.links in
@@ -42,8 +42,8 @@ number-requires-clause-parent c =
     has_parent mesh lengths c.law_of_surface.ensures.surface positive c.args.base c.requires.reached.far c.requires.base c.args.surface.now.signatures.now c.args.desk.now c.requires.reached.near
     c.loop-v.self c.loop-v.v-index c.v-item.result it.0 it.1 c.loop-v.invariant.count c.requires.signatures c.loop-v.invariant.ways
 
-pub number-requires-clause-few : goal.number-requires-clause-few
-number-requires-clause-few c =
+pub add-requires-clause-few : goal.add-requires-clause-few
+add-requires-clause-few c =
     omega (arith, c.loop-v.invariant.few, c.loop-v-test.true, c.settled-v-items.ensures.few, c.requires.reached.near.made.distances, c.law_of_surface.ensures.vertices)
 
 pub loop-v-preserved : goal.loop-v-preserved
@@ -54,10 +54,10 @@ loop-v-preserved c =
     let it = item_settled c.settled-v-items.result.now c.args.desk.now.settled c.loop-v.v-index c.v-item.result c.settled-v-items.ensures.settled c.loop-v-test.true c.v-item.is in
     record {
       ways = ways_more mesh lengths c.law_of_surface.ensures.surface positive c.args.base c.requires.reached.far c.requires.base c.args.surface.now.signatures.now c.args.desk.now c.requires.reached.near
-          c.loop-v.self c.number.new.self c.loop-v.v-index c.v-item.result it.0 it.1 c.loop-v.invariant.ways c.in_ok-number.ensures.numbered;
-      none = c.in_ok-number.ensures.none;
-      count = c.number.ensures.count ∙ c.loop-v.invariant.count;
-      few = omega (arith, c.number.ensures.one, c.loop-v.invariant.few);
+          c.loop-v.self c.add.new.self c.loop-v.v-index c.v-item.result it.0 it.1 c.loop-v.invariant.ways c.in_ok-add.ensures.numbered;
+      none = c.in_ok-add.ensures.none;
+      count = c.add.ensures.count ∙ c.loop-v.invariant.count;
+      few = omega (arith, c.add.ensures.one, c.loop-v.invariant.few);
     }
 
 pub returns-clause-ways : goal.returns-clause-ways
