@@ -1,5 +1,5 @@
 -- Ways up to the base of a search, and the loops of edges by them.
-use Rattle.surf_search.proofs.Common.{◌≡◌, ◌≢◌, ◌⊎◌, inl, inr, ℕ, ◌<◌, ◌≤◌, ◌+◌, ◌/◌, ◌∷◌, ◌++◌, [], true, List, length, get_or, set, reverse, slice_index, refl, sym, ap, ◌∙◌, subst, arith, cases_eq, cases_lt, leb-true, le-leb, get_or_default, get_or-set_same, get_or-set_other, length-set, primal, Tree, IsTree, Mesh, ends, IsSurface, ArePositive, cells_of, IsShortestTree, way_up, way_down, choice_exists, shortest_trees, ends_are_near, shortest_is_tree, way_reversed, ends_in, NearTables, IsNear, is_near, Candidate, Signed, AddsWay, AreWalksOf, AreWritten, AreWrittenTo, HasReachedEnds, IsLoopWalk, IsMeasured, IsWalkOf}
+use Rattle.surf_search.proofs.Common.{◌≡◌, ◌≢◌, ◌⊎◌, inl, inr, ℕ, ◌<◌, ◌≤◌, ◌+◌, ◌/◌, ◌∷◌, ◌++◌, [], true, List, length, get_or, set, reverse, slice_index, refl, sym, ap, ◌∙◌, subst, arith, cases_eq, cases_lt, leb-true, le-leb, get_or_default, get_or-set_same, get_or-set_other, length-set, primal, Tree, IsTree, Mesh, ends, IsSurface, ArePositive, cells_of, IsShortestTree, way_up, way_down, choice_exists, shortest_trees, ends_are_near, shortest_is_tree, way_reversed, ends_in, NearTables, IsNear, is_near, Candidate, Signed, AddsWay, AreWalksOf, AreWritten, AreWrittenTo, HasReachedEnds, IsLoopWalk, IsMeasured, IsReachedTo, IsWalkOf}
 use Rattle.surf_graphs.proofs.Ways.{ways_go_by_parents}
 use Rattle.surf_search.proofs.Numbered.{near_parent}
 use Rattle.surf_search.proofs.Told.{half_below}
@@ -67,6 +67,11 @@ module _ (mesh : Mesh) (lengths : List ℕ) (surface : IsSurface mesh) (positive
       second tree short ∙ ap (λ xs. xs ++ v ∷ way_up tree (tree.rank v) v) back
       ∙ ap (λ n. tree.root ∷ way_down tree (tree.rank n) n ++ (v ∷ way_up tree (tree.rank v) v)) is_u
       ∙ ap (λ n. tree.root ∷ way_down tree (tree.rank (ends mesh e).0) (ends mesh e).0 ++ (n ∷ way_up tree (tree.rank n) n)) is_v
+
+-- a search goes as far by the links' own mesh
+pub reached_there : (mesh own : Mesh) (lengths : List ℕ) (base far : ℕ) (t : NearTables) → own ≡ mesh →
+    IsReachedTo own lengths base far t → IsReachedTo mesh lengths base far t
+reached_there mesh own lengths base far t same r = subst (λ m. IsReachedTo m lengths base far t) same r
 
 -- the ends of the edge of a candidate are reached by a search that goes half its length, or farther
 pub ends_reached : (mesh : Mesh) (lengths : List ℕ) → IsSurface mesh → ArePositive mesh lengths → (c : Candidate) (greatest went : ℕ) (t : NearTables) →

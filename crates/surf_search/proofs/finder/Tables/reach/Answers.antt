@@ -21,12 +21,8 @@ returns-clause-settled c = λ k d l.
     (settled_in mesh net.lengths c.law_of_surface.ensures.surface positive c.args.base (radius_of c.args.limit.now) c.requires.base
     c.args.surface.now.signatures.now t near k l)
 
--- it is known how far the search went
-known : (c : goal.Grow) → IsNear c.args.links.now.mesh c.args.links.now.lengths c.grow.new.self.base c.radius-far.result c.grow.new.self
-known c =
+pub returns-clause-known : goal.returns-clause-known
+returns-clause-known c =
     let net = c.args.links.now in
     let near = c.grow.ensures.near in
     subst (λ b. IsNear net.mesh net.lengths b c.radius-far.result c.grow.new.self) (sym near.base_is) near
-
-pub returns-clause-known : goal.returns-clause-known
-returns-clause-known c = known c
