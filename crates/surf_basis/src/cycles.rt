@@ -1,7 +1,9 @@
 //! The cycles of candidates.
-ghost use Rattle.std.specs.Prelude.{◌≡◌, ◌<◌, [], All, IfOk, length, replicate};
+ghost use Rattle.std.specs.Prelude.{◌≡◌, ◌<◌, ◌≤◌, ◌-◌, ℕ, [], false, All, IfOk, IsTrue, length, replicate, slice_index_or};
 ghost use Rattle.surf_surfaces.specs.Surface.{edge_count};
 ghost use Rattle.surf_tree.specs.Grown.{IsGrown as IsTreeGrown};
+ghost use Rattle.surf_choice.specs.Candidates.{earlier};
+ghost use Rattle.surf_choice.specs.declared.candidate.Signed.{Signed};
 ghost use Rattle.surf_search.specs.Walks.{IsMeasured};
 ghost use Rattle.surf_basis.specs.Candidates.{IsInside, IsCycleOf, AreCyclesOf, ArePutIn, HaveWalks, cycles_with};
 
@@ -52,20 +54,38 @@ fn cycles_with(alloc: Global, kept: &[Signed], walks: Vec<Walk>) -> Result<Vec<C
     Ok(cycles.collect(alloc)?)
 }
 
+// How many of the first loops are left without those at their end that come after a candidate.
+fn without_later(kept: &[Signed], count: usize, candidate: &Candidate) -> usize
+    requires count { count ≤ length kept.now }
+    ensures within { result ≤ count }
+    ensures later { (k : ℕ) (s : Signed) → result ≤ k → k < count →
+        IsTrue (earlier candidate.now (slice_index_or kept.now k s).candidate) }
+    ensures stops { (s : Signed) → 0 < result →
+        earlier candidate.now (slice_index_or kept.now (result - 1) s).candidate ≡ false }
+{
+    let mut left = count;
+    while left > 0 && comes_before(candidate, &kept[left - 1].candidate) {
+        left -= 1;
+    }
+    left
+}
+
 // Writes the walks of cycles for those of their loops that are still kept. The others are dropped.
+// Both are in order, so that each place is looked at once.
 fn put_walks(mut cycles: Vec<Cycle>, kept: &[Signed], walks: &mut [Walk])
     requires none { walks.old ≡ replicate (length kept.now) [] }
     ensures put { ArePutIn cycles.items kept.now walks.new }
 {
+    let mut left = kept.len();
     while let Some(cycle) = cycles.pop() {
         let candidate = Candidate {
             length: cycle.length,
             base: cycle.base,
             edge: cycle.edge,
         };
-        let k = kept.partition_point(|s| comes_before(&s.candidate, &candidate));
-        if k < kept.len() && kept[k].candidate == candidate {
-            walks[k] = cycle.walk;
+        left = without_later(kept, left, &candidate);
+        if left > 0 && kept[left - 1].candidate == candidate {
+            walks[left - 1] = cycle.walk;
         }
     }
 }
