@@ -1,6 +1,6 @@
 -- What the proofs of bases and of shortest cycles cite most besides, by one import.
 pub use Rattle.surf_basis.specs.Based.{AreOffered, IsOffered, based_at}
-pub use Rattle.surf_basis.specs.Candidates.{AreCyclesOf, IsCycleOf, IsFirstPlace, IsInside, IsSigned, candidate_of, cycle_with, cycles_with, first_head, loop_in, loops_in}
+pub use Rattle.surf_basis.specs.Candidates.{AreCyclesOf, ArePutIn, HaveWalks, IsCycleOf, IsFirstPlace, IsInside, IsSigned, candidate_of, cycle_with, cycles_with, first_head, loop_in, loops_in}
 pub use Rattle.surf_basis.specs.Certs.{AreTreeRows, AreTreeRowsBelow, IsTheCert}
 pub use Rattle.surf_basis.specs.Cut.{AreCutVertices, AreToSearch, HasEnds, HasVertex, IsClosedUpward, IsDividedBy, IsLeastSet, IsPartOf}
 pub use Rattle.surf_basis.specs.Cycles.{AllSeparate, IsFirstCandidate, IsShortestCycle, IsTheBasis, as_loop, as_loops, first_of}

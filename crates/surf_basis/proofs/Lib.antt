@@ -1,6 +1,7 @@
 pub mod Common
 pub mod Based
 pub mod Certified
+pub mod Cycled
 pub mod Ended
 pub mod First
 pub mod Kept

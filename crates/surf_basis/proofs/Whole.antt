@@ -1,8 +1,14 @@
 -- What is known when all bases were gone through.
-use Rattle.surf_basis.proofs.Common.{LoopTables, IsGreedy, Cycle, AreCyclesOf, AreKeptOver, HasBases, as_loops, IsTheBasis, ◌≡◌, ℕ, ◌<◌, List, [], length, get_or, map, All, refl, sym, ap, ◌∙◌, subst, arith, range_with_len, IsSplit, Tree, Mesh, edge_count, ends, IsSurface, ArePositive, cells_of, IsLoopCount, loop_length, IsShortestTree, IsChosenBasis, edge_signature, LeastSimpleBasis, basis_is_least, choice_exists, shortest_trees_are_one, ends_in, CotreeTables, split_with, Signed, IsMeasured, HavePlacesOfBasis, AreSigned}
-use Rattle.surf_search.proofs.Common.{Loop}
+use Rattle.surf_basis.proofs.Common.{LoopTables, IsGreedy, Cycle, AreBases, AreCyclesOf, AreKeptOver, AreOffered, IsOffered, independent_of, lengths_at, signed_earlier, slice_index, ◌+◌, HasBases, as_loops, IsTheBasis, ◌≡◌, ℕ, ◌<◌, List, [], length, get_or, map, All, refl, sym, ap, ◌∙◌, subst, arith, range_with_len, IsSplit, Tree, Mesh, edge_count, ends, IsSurface, ArePositive, cells_of, IsLoopCount, loop_length, IsShortestTree, IsChosenBasis, edge_signature, LeastSimpleBasis, basis_is_least, choice_exists, shortest_trees_are_one, ends_in, CotreeTables, split_with, Signed, IsMeasured, HavePlacesOfBasis, AreSigned}
+use Rattle.surf_search.proofs.Common.{IfOk, Loop, merge}
+use Rattle.std.proofs.Common.{Result, Ok, Err}
 use Rattle.surf_basis.proofs.Looped.{empty_basis}
-use Rattle.surf_basis.proofs.Kept.{cycles_basis}
+use Rattle.surf_basis.proofs.Kept.{cycles_basis, kept_more}
+
+-- two clauses on one answer
+pub both_hold : {X E : Type 0} (r : Result X E) (P Q : X → Type 0) → IfOk r P → IfOk r Q → IfOk r (λ x. P x × Q x)
+both_hold (Ok x) P Q p q = (p, q)
+both_hold (Err e) P Q p q = tt
 
 -- how many edges are left is 2 − χ
 pub left_full : (mesh : Mesh) (lengths : List ℕ) (base : ℕ) (t : LoopTables) (cotree : CotreeTables) (left : List ℕ) → IsGreedy mesh lengths base t →
@@ -54,6 +60,15 @@ module _ (mesh : Mesh) (lengths : List ℕ) (surface : IsSurface mesh) (positive
   pub none_basis : (cycles : List Cycle) → cycles ≡ [] → IsLoopCount mesh 0 → IsTheBasis mesh lengths (as_loops cycles)
   none_basis cycles none full trees chosen =
       subst (λ ys. IsChosenBasis mesh lengths trees (as_loops ys)) (sym none) (empty_basis mesh lengths trees surface positive chosen full)
+
+  -- what is kept after one more base
+  pub kept_over : (s : CotreeTables) (found : List Signed) (bases : List ℕ) (done base : ℕ) (some : List ℕ) (offered kept next : List Signed) →
+      AreBases mesh bases → HasBases bases found → done < length bases → slice_index bases done ≡ base → some ≡ lengths_at found base →
+      AreOffered mesh lengths s some base offered → AreKeptOver mesh lengths s found bases done kept →
+      next ≡ independent_of (merge signed_earlier kept offered) → AreKeptOver mesh lengths s found bases (done + 1) next
+  kept_over s found bases done base some offered kept next are has l at same o k is trees chosen d split signs =
+      kept_more mesh lengths trees surface positive chosen d split found bases done base offered kept next are has l at
+      (subst (λ ls. IsOffered mesh lengths trees d ls base offered) same (o trees chosen d split signs)) (k trees chosen d split signs) is
 
   module _ (s : CotreeTables) (width : ℕ) (signed : AreSigned mesh s width) where
     -- the lengths of those kept are those of their loops

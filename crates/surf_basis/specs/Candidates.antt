@@ -1,5 +1,5 @@
 -- Candidates for a basis as loops by trees of shortest walks, and their cycles.
-use Rattle.std.specs.Prelude.{ℕ, ◌≡◌, ◌<◌, IsTrue, List, [], ◌∷◌, map, Option, Some, None}
+use Rattle.std.specs.Prelude.{ℕ, ◌≡◌, ◌<◌, ◌⊎◌, IsTrue, List, [], ◌∷◌, map, length, slice_index_or, All, Contains, Option, Some, None}
 use Rattle.std.specs.List.{zip}
 use Rattle.std.specs.Option.{option_map}
 use Rattle.surf_graphs.specs.Cells.{Split}
@@ -14,6 +14,7 @@ use Rattle.surf_loops.specs.declared.head.LoopHead.{LoopHead}
 use Rattle.surf_loops.specs.Loops.{LoopTables}
 use Rattle.surf_choice.specs.declared.candidate.Candidate.{Candidate}
 use Rattle.surf_choice.specs.declared.candidate.Signed.{Signed}
+use Rattle.surf_search.specs.Walks.{IsLoopWalk}
 use Rattle.surf_basis.specs.Cycles.{first_of}
 use Rattle.surf_basis.specs.declared.cycle.Cycle.{Cycle}
 
@@ -58,6 +59,16 @@ cycle_with p = record {
 -- candidates with as many walks, as cycles
 abbrev pub cycles_with : List Signed → List (List ℕ) → List Cycle
 cycles_with kept walks = map cycle_with (zip kept walks)
+
+-- each cycle has the walk of the loop of its edge at its base
+abbrev pub HaveWalks : Mesh → List ℕ → List Cycle → Type 0
+HaveWalks mesh lengths cycles = All (λ c. IsLoopWalk mesh lengths c.base c.edge c.walk) cycles
+
+-- each candidate has the walk of the one of some cycles that has its length, base and edge, or none
+pub record ArePutIn (cycles : List Cycle) (kept : List Signed) (walks : List (List ℕ)) : Type 0 where
+  pub count : length walks ≡ length kept
+  pub each : (k : ℕ) (s : Signed) → k < length kept → (slice_index_or walks k [] ≡ [])
+      ⊎ Contains cycles (cycle_with (slice_index_or kept k s, slice_index_or walks k []))
 
 -- a head of a desk as a candidate at its base
 abbrev pub candidate_of : TreeTables → LoopHead → Candidate

@@ -5,6 +5,7 @@ ghost use Rattle.surf_surfaces.specs.Walk.{ArePositive};
 ghost use Rattle.surf_surfaces.specs.Homology.{IsLoopCount};
 ghost use Rattle.surf_surfaces.specs.FewBases.{AreBases, MeetsAll};
 ghost use Rattle.surf_surfaces.specs.ChoiceLaws.{LeastSimpleBasis};
+ghost use Rattle.surf_basis.specs.Candidates.{AreCyclesOf};
 ghost use Rattle.surf_basis.specs.Cycles.{first_of, IsFirstCandidate, IsShortestCycle, IsTheBasis, as_loops};
 ghost use Rattle.surf_search.specs.Found.{is_among, surface_of};
 ghost use Rattle.surf_basis.specs.Kept.{AreKeptOver, HasBases};
@@ -25,7 +26,9 @@ use surf_lengths::Lengths;
 use surf_mesh::HalfMesh;
 use surf_search::{Finder, SignedSurface, sufficient_loops};
 
-// Makes the choice from those loops at some bases that have the lengths of candidates there.
+// Makes the choice from those loops at some bases that have the lengths of candidates there, and
+// gives the cycles of the loops that are kept. They are read off the search at their base, while
+// its tables stand.
 fn choose(
     alloc: Global,
     finder: &mut Finder<'_>,
@@ -33,7 +36,7 @@ fn choose(
     bases: &[VertexId],
     least: &mut Choice,
     choice: &mut Choice,
-) -> Result<(), NoMemory>
+) -> Result<Vec<Cycle>, NoMemory>
     requires signed { AreSigned finder.old.mesh finder.old.signs choice.old.width }
     requires width { least.old.width ≡ choice.old.width }
     requires positive { IsSurface finder.old.mesh × ArePositive finder.old.mesh finder.old.lengths }
@@ -43,17 +46,21 @@ fn choose(
     requires none { choice.old.kept ≡ [] }
     ensures kept { OnOk result (AreKeptOver finder.old.mesh finder.old.lengths finder.old.signs
         found.now bases.now (length bases.now) choice.new.kept) }
+    ensures cycles { IfOk result (λ cycles. AreCyclesOf finder.old.mesh finder.old.lengths
+        choice.new.kept cycles.items) }
     ensures same { finder.new ≡ finder.old }
 {
     let mut lengths = Vec::new(alloc);
     let mut based = Vec::new(alloc);
     let mut loops = Vec::new(alloc);
+    let mut cycles = Vec::new(alloc);
     for base in bases {
         list_lengths(found, *base, &mut lengths)?;
         loops_at(finder, least, *base, &lengths, &mut based, &mut loops)?;
         choice.keep(&loops)?;
+        cycles = cycles_of(alloc, finder, choice.kept(), cycles)?;
     }
-    Ok(())
+    Ok(cycles)
 }
 
 // The basis that is chosen, from loops among whose lengths and least bases are those of its loops.
@@ -78,8 +85,7 @@ fn basis_from(
     let bases = bases_of(alloc, surface.mesh, found)?;
     let mut least = Choice::make(alloc, count as u32)?;
     let mut choice = Choice::make(alloc, count as u32)?;
-    choose(alloc, finder, found, &bases, &mut least, &mut choice)?;
-    cycles_of(alloc, finder, choice.kept())
+    choose(alloc, finder, found, &bases, &mut least, &mut choice)
 }
 
 // The basis that is chosen, on a surface with signatures, where as many cycles as given make it. It

@@ -19,9 +19,9 @@
 //! ones by length and edge are those that are chosen at the base. Those of them with the length of
 //! one that was found for this base are offered to the choice among candidates, which `surf_choice`
 //! makes part by part: no more of them are held than a basis has, and no tree of the whole surface
-//! is grown. The walks of the loops that are kept in the end are read off one more search near each
-//! of their bases. The first cycle needs the first of the loops that searches from these vertices
-//! find, and then the loops at its base alone.
+//! is grown. The walks of the loops that are kept then are read off the tables of that search, and
+//! that of a loop is dropped when the loop is. The first cycle needs the first of the loops that
+//! searches from these vertices find, and then the loops at its base alone.
 //!
 //! A certificate of the basis has the trees at all vertices, which are grown again for it one after
 //! the other, and shows that the basis is least to a checker that searches nothing.

@@ -46,7 +46,7 @@ pub use Rattle.surf_search.specs.Rounds.{IsWider, KeepsInRound, cap_at, fall_ord
 pub use Rattle.surf_search.specs.Rounds.{told_by, told_of}
 pub use Rattle.surf_search.specs.Signing.{AreSignatures, AreSigned}
 pub use Rattle.surf_search.specs.Walks.{AddsWay, AreWalksOf, AreWritten, AreWrittenTo, HasReachedEnds, IsLoopWalk}
-pub use Rattle.surf_search.specs.Walks.{IsMeasured, IsWalkOf}
+pub use Rattle.surf_search.specs.Walks.{IsKnown, IsMeasured, IsReachedTo, IsWalkOf}
 pub use Rattle.surf_search.specs.Ways.{AreWays, HasNone, HasParent, IsNumbered, IsWayAt, WayTables, class_at}
 pub use Rattle.surf_search.specs.declared.caps.Ask.{Ask}
 pub use Rattle.surf_signatures.proofs.WayLaws.{loop_class, way_more, way_none}

@@ -1,5 +1,5 @@
 -- Ways up to the base of a search, and the loops of edges by them.
-use Rattle.surf_search.proofs.Common.{◌≡◌, ◌≢◌, ◌⊎◌, inl, inr, ℕ, ◌<◌, ◌≤◌, ◌+◌, ◌/◌, ◌∷◌, ◌++◌, [], true, List, replicate, length-replicate, get_or-replicate, length, get_or, set, reverse, slice_index, refl, sym, ap, ◌∙◌, subst, arith, cases_eq, cases_lt, leb-true, le-leb, get_or_default, get_or-set_same, get_or-set_other, length-set, primal, Tree, IsTree, Mesh, ends, IsSurface, ArePositive, cells_of, IsShortestTree, way_up, way_down, choice_exists, shortest_trees, ends_are_near, shortest_is_tree, way_reversed, ends_in, NearTables, IsNear, is_near, Candidate, Signed, AddsWay, AreWalksOf, AreWritten, AreWrittenTo, HasReachedEnds, IsLoopWalk, IsMeasured, IsWalkOf}
+use Rattle.surf_search.proofs.Common.{◌≡◌, ◌≢◌, ◌⊎◌, inl, inr, ℕ, ◌<◌, ◌≤◌, ◌+◌, ◌/◌, ◌∷◌, ◌++◌, [], true, List, length, get_or, set, reverse, slice_index, refl, sym, ap, ◌∙◌, subst, arith, cases_eq, cases_lt, leb-true, le-leb, get_or_default, get_or-set_same, get_or-set_other, length-set, primal, Tree, IsTree, Mesh, ends, IsSurface, ArePositive, cells_of, IsShortestTree, way_up, way_down, choice_exists, shortest_trees, ends_are_near, shortest_is_tree, way_reversed, ends_in, NearTables, IsNear, is_near, Candidate, Signed, AddsWay, AreWalksOf, AreWritten, AreWrittenTo, HasReachedEnds, IsLoopWalk, IsMeasured, IsReachedTo, IsWalkOf}
 use Rattle.surf_graphs.proofs.Ways.{ways_go_by_parents}
 use Rattle.surf_search.proofs.Numbered.{near_parent}
 use Rattle.surf_search.proofs.Told.{half_below}
@@ -68,10 +68,15 @@ module _ (mesh : Mesh) (lengths : List ℕ) (surface : IsSurface mesh) (positive
       ∙ ap (λ n. tree.root ∷ way_down tree (tree.rank n) n ++ (v ∷ way_up tree (tree.rank v) v)) is_u
       ∙ ap (λ n. tree.root ∷ way_down tree (tree.rank (ends mesh e).0) (ends mesh e).0 ++ (n ∷ way_up tree (tree.rank n) n)) is_v
 
+-- a search goes as far by the links' own mesh
+pub reached_there : (mesh own : Mesh) (lengths : List ℕ) (base far : ℕ) (t : NearTables) → own ≡ mesh →
+    IsReachedTo own lengths base far t → IsReachedTo mesh lengths base far t
+reached_there mesh own lengths base far t same r = subst (λ m. IsReachedTo m lengths base far t) same r
+
 -- the ends of the edge of a candidate are reached by a search that goes half its length, or farther
-pub ends_reached : (mesh : Mesh) (lengths : List ℕ) → IsSurface mesh → ArePositive mesh lengths → (c : Candidate) (greatest : ℕ) (t : NearTables) →
-    IsMeasured mesh lengths c → c.length ≤ greatest → IsNear mesh lengths c.base (greatest / 2) t → HasReachedEnds mesh t c.edge
-ends_reached mesh lengths surface positive c greatest t m no_longer near =
+pub ends_reached : (mesh : Mesh) (lengths : List ℕ) → IsSurface mesh → ArePositive mesh lengths → (c : Candidate) (greatest went : ℕ) (t : NearTables) →
+    IsMeasured mesh lengths c → c.length ≤ greatest → greatest / 2 ≤ went → IsNear mesh lengths c.base went t → HasReachedEnds mesh t c.edge
+ends_reached mesh lengths surface positive c greatest went t m no_longer enough near =
     let (trees, chosen) = choice_exists mesh lengths surface positive in
     let tree = (trees c.base).tree in
     let short = (chosen c.base m.base_in).shortest in
@@ -80,12 +85,12 @@ ends_reached mesh lengths surface positive c greatest t m no_longer near =
     m.base_in m.edge_in in
     let (u_in, v_in) = ends_in mesh surface c.edge m.edge_in in
     let size = m.size tree short in
-    let u_far : tree.rank (ends mesh c.edge).0 ≤ greatest / 2 = half_below (tree.rank (ends mesh c.edge).0) greatest (omega (arith, half.0, size, no_longer)) in
-    let v_far : tree.rank (ends mesh c.edge).1 ≤ greatest / 2 = half_below (tree.rank (ends mesh c.edge).1) greatest (omega (arith, half.1, size, no_longer)) in
+    let u_half = half_below (tree.rank (ends mesh c.edge).0) greatest (omega (arith, half.0, size, no_longer)) in
+    let v_half = half_below (tree.rank (ends mesh c.edge).1) greatest (omega (arith, half.1, size, no_longer)) in
     record {
       edge_in = m.edge_in;
-      low = n.is_near (ends mesh c.edge).0 u_in ∙ le-leb (tree.rank (ends mesh c.edge).0) (greatest / 2) u_far;
-      high = n.is_near (ends mesh c.edge).1 v_in ∙ le-leb (tree.rank (ends mesh c.edge).1) (greatest / 2) v_far;
+      low = n.is_near (ends mesh c.edge).0 u_in ∙ le-leb (tree.rank (ends mesh c.edge).0) went (omega (arith, u_half, enough));
+      high = n.is_near (ends mesh c.edge).1 v_in ∙ le-leb (tree.rank (ends mesh c.edge).1) went (omega (arith, v_half, enough));
     }
 
 -- ---- the walks of several loops
@@ -183,14 +188,6 @@ module _ (mesh : Mesh) (lengths : List ℕ) (kept : List Signed) where
       ]
       | inr ne ↦ h.written j t (before j k lt ne) j_in
     ];
-  }
-
-  -- where no candidate has a walk
-  pub none_written : (walks : List (List ℕ)) → walks ≡ replicate (length kept) [] → AreWrittenTo mesh lengths kept 0 walks
-  none_written walks none = record {
-    count = ap (λ (ws : List (List ℕ)). length ws) none ∙ length-replicate (length kept) [];
-    either = λ j t j_in. inl (ap (λ (ws : List (List ℕ)). get_or ws j []) none ∙ get_or-replicate (length kept) j [] [] j_in);
-    written = λ j t lt j_in. absurd (omega (arith, lt));
   }
 
   -- all of them

@@ -1,12 +1,12 @@
 -- The walks of loops, and candidates by their lengths.
-use Rattle.std.specs.Prelude.{ℕ, ◌≡◌, ◌≢◌, ◌<◌, ◌⊎◌, ◌++◌, [], ◌∷◌, IsTrue, List, length, slice_index_or}
+use Rattle.std.specs.Prelude.{ℕ, ◌≡◌, ◌≢◌, ◌<◌, ◌≤◌, ◌⊎◌, ◌++◌, [], ◌∷◌, IsTrue, List, Option, IfSome, length, slice_index_or}
 use Rattle.surf_graphs.specs.Loops.{way_up}
 use Rattle.surf_graphs.specs.Trees.{Tree}
 use Rattle.surf_surfaces.specs.Mesh.{Mesh}
 use Rattle.surf_surfaces.specs.Surface.{edge_count, ends}
 use Rattle.surf_surfaces.specs.Loop.{loop_walk, loop_length}
 use Rattle.surf_surfaces.specs.ShortestTree.{IsShortestTree}
-use Rattle.surf_near.specs.Near.{NearTables, is_near}
+use Rattle.surf_near.specs.Near.{NearTables, IsNear, is_near}
 use Rattle.surf_choice.specs.declared.candidate.Candidate.{Candidate}
 use Rattle.surf_choice.specs.declared.candidate.Signed.{Signed}
 
@@ -24,6 +24,16 @@ pub record IsMeasured (mesh : Mesh) (lengths : List ℕ) (c : Candidate) : Type 
   pub base_in : c.base < mesh.vertices
   pub edge_in : c.edge < edge_count mesh
   pub size : (tree : Tree) → IsShortestTree mesh lengths c.base tree → c.length ≡ loop_length mesh lengths tree c.edge
+
+-- the tables are those of a search from a base that went as far as given, or farther
+pub record IsReachedTo (mesh : Mesh) (lengths : List ℕ) (base far : ℕ) (t : NearTables) : Type 0 where
+  pub went : ℕ
+  pub enough : far ≤ went
+  pub near : IsNear mesh lengths base went t
+
+-- where it is known how far the last search went, the tables are those of a search from their base that went so far
+abbrev pub IsKnown : Mesh → List ℕ → NearTables → Option ℕ → Type 0
+IsKnown mesh lengths t far = IfSome far (λ went. IsNear mesh lengths t.base went t)
 
 -- ---- the walks of several loops
 

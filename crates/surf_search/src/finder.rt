@@ -5,7 +5,7 @@ ghost use Rattle.surf_surfaces.specs.Walk.{ArePositive};
 ghost use Rattle.surf_firsts.specs.Near.{AgreeOff};
 ghost use Rattle.surf_near.specs.Links.{IsShutAt};
 ghost use Rattle.surf_near.specs.Near.{AreNearTables, IsNear, is_near};
-ghost use Rattle.surf_search.specs.Walks.{AreWalksOf, AreWrittenTo, IsMeasured};
+ghost use Rattle.surf_search.specs.Walks.{AreWalksOf, AreWrittenTo, IsKnown, IsMeasured, IsReachedTo};
 ghost use Rattle.surf_search.specs.Found.{surface_of, AreFirstFound, IsFirstAt};
 ghost use Rattle.surf_search.specs.Kinds.{AreKinds};
 ghost use Rattle.surf_search.specs.Passing.{is_marked, AreMarkedNear, AreNoShorter, AreShut};
@@ -20,7 +20,7 @@ use crate::reached::{Reached, radius};
 use crate::rises::Rises;
 use crate::surface::SignedSurface;
 use crate::told_loops::{Ties, list_loops};
-use crate::walks::{greatest_at, no_walks, write_walks};
+use crate::walks::{greatest_at, write_walks};
 use crate::ways::Ways;
 use std::alloc::Global;
 use std::marker::Model;
@@ -29,14 +29,36 @@ use surf_choice::{Candidate, Signed};
 use surf_mesh::Walk;
 use surf_near::{Links, NearDesk};
 
-/// The tables of one search at a time: what it reached, and the classes of the ways there.
+/// The tables of one search at a time: what it reached, how far it went, where that is known, and
+/// the classes of the ways there.
 #[derive(Drop)]
 struct Tables {
     desk: NearDesk,
+    far: Option<u64>,
     ways: Ways,
 }
 
 impl Tables {
+    // Searches from a base as far as given. The last search will do if it was from there and went
+    // as far.
+    fn grow(&mut self, links: &Links<'_>, base: VertexId, far: u64)
+        requires base { base < links.now.mesh.vertices }
+        requires made { AreNearTables links.now.mesh self.old.desk }
+        requires known { IsKnown links.now.mesh links.now.lengths self.old.desk self.old.far }
+        ensures reached { IsReachedTo links.now.mesh links.now.lengths base far self.new.desk }
+        ensures known { IsKnown links.now.mesh links.now.lengths self.new.desk self.new.far }
+        ensures ways { self.new.ways ≡ self.old.ways }
+    {
+        if let Some(went) = self.far
+            && far <= went
+            && self.desk.base() == base
+        {
+            return;
+        }
+        self.desk.grow(links, base, far);
+        self.far = Some(far);
+    }
+
     // Searches from a base, as far as it must to find the loops before a limit.
     fn reach(
         &mut self,
@@ -60,10 +82,13 @@ impl Tables {
         ensures ways { OnOk result (AreWays surface.now.mesh.now links.now.lengths base
             surface.now.signatures.now self.new.desk self.new.ways) }
         ensures numbers { length self.new.ways.numbers ≡ surface.now.mesh.now.vertices }
+        ensures known { IsKnown links.now.mesh links.now.lengths self.new.desk self.new.far }
     {
         surface.mesh.law_of_surface();
         links.law_of_links();
-        self.desk.grow(links, base, radius(limit));
+        let far = radius(limit);
+        self.desk.grow(links, base, far);
+        self.far = Some(far);
         self.ways.sum(surface, links, &self.desk, kinds, base)
     }
 }
@@ -87,6 +112,7 @@ impl<'a> Model for Finder<'a> {
     ghost use Rattle.surf_search.specs.Found.{SurfaceTables};
     ghost use Rattle.surf_search.specs.Kinds.{AreKinds};
     ghost use Rattle.surf_search.specs.Rises.{AreStarts};
+    ghost use Rattle.surf_search.specs.Walks.{IsKnown};
 
     ghost Value = { SurfaceTables };
 
@@ -99,6 +125,7 @@ impl<'a> Model for Finder<'a> {
 
     ghost invariant = { λ f. (f.links.mesh ≡ f.surface.mesh.now)
         × AreNearTables f.surface.mesh.now f.tables.desk
+        × IsKnown f.links.mesh f.links.lengths f.tables.desk f.tables.far
         × (length f.tables.ways.numbers ≡ f.surface.mesh.now.vertices)
         × (length f.surface.signatures.now.signatures ≡ edge_count f.surface.mesh.now)
         × AreKinds f.surface.signatures.now f.kinds
@@ -134,6 +161,7 @@ impl<'a> Finder<'a> {
         let links = Links::make(alloc, surface.mesh, surface.lengths)?;
         let tables = Tables {
             desk: NearDesk::make(alloc, surface.mesh)?,
+            far: None,
             ways: Ways::make(alloc, surface.mesh)?,
         };
         let kinds = Kinds::make(alloc, &surface)?;
@@ -204,7 +232,7 @@ impl<'a> Finder<'a> {
     {
         self.surface.mesh.law_of_surface();
         self.links.law_of_links();
-        self.tables.desk.grow(&self.links, base, u64::MAX);
+        self.tables.grow(&self.links, base, u64::MAX);
         list_distances(alloc, &self.tables.desk)
     }
 
@@ -224,6 +252,7 @@ impl<'a> Finder<'a> {
         self.links.law_of_links();
         marks[v.index()] = true;
         self.links.bar(v);
+        self.tables.far = None;
     }
 
     /// Marks the vertices that are no farther from a base than a distance, and bars the ways
@@ -246,6 +275,7 @@ impl<'a> Finder<'a> {
         self.links.law_of_links();
         self.tables.desk.grow(&self.links, base, far);
         mark_all(self.tables.desk.settled(), &mut self.links, marks);
+        self.tables.far = None;
     }
 
     /// Lets no vertex be barred any more: each edge has its given length again.
@@ -253,6 +283,7 @@ impl<'a> Finder<'a> {
         ensures unbarred { self.new ≡ record self.old { lengths = self.old.given } }
     {
         self.links.unbar();
+        self.tables.far = None;
     }
 
     // Writes the walk of a candidate's loop, if it isn't there yet, and with it those of all others
@@ -280,7 +311,7 @@ impl<'a> Finder<'a> {
         self.links.law_of_links();
         let base = kept[k].candidate.base;
         let far = greatest_at(kept, base) / 2;
-        self.tables.desk.grow(&self.links, base, far);
+        self.tables.grow(&self.links, base, far);
         write_walks(
             alloc,
             self.surface.mesh,
@@ -291,20 +322,25 @@ impl<'a> Finder<'a> {
         )
     }
 
-    /// The walks of the loops of candidates, whose lengths are those of the loops, in order. There
-    /// is one search for each base.
-    pub fn walks(&mut self, alloc: Global, kept: &[Signed]) -> Result<Vec<Walk>, NoMemory>
+    /// Writes the walks of the loops of candidates, whose lengths are those of the loops, where they
+    /// aren't written yet. There is one search for each base of these, and none for that of the last
+    /// search, if this went far enough.
+    pub fn write_walks(
+        &mut self,
+        alloc: Global,
+        kept: &[Signed],
+        walks: &mut [Walk],
+    ) -> Result<(), NoMemory>
         requires measured { All (λ s. IsMeasured self.old.mesh self.old.lengths s.candidate)
             kept.now }
-        ensures walks { IfOk result (λ walks. AreWalksOf self.old.mesh self.old.lengths kept.now
-            walks.items) }
+        requires before { AreWrittenTo self.old.mesh self.old.lengths kept.now 0 walks.old }
+        ensures walks { OnOk result (AreWalksOf self.old.mesh self.old.lengths kept.now walks.new) }
         ensures same { self.new ≡ self.old }
     {
-        let mut walks = no_walks(alloc, kept.len())?;
         for k in 0..kept.len() {
-            self.write_from(alloc, k, kept, &mut walks)?;
+            self.write_from(alloc, k, kept, walks)?;
         }
-        Ok(walks)
+        Ok(())
     }
 
     /// The first of a limit, if there is one, and the loops at a base that aren't null and come

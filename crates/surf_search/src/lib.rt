@@ -71,3 +71,4 @@ pub use marks::{list_marked, scatter};
 pub use rounds::sufficient_loops;
 pub use surface::SignedSurface;
 pub use told_loops::Ties;
+pub use walks::no_walks;

@@ -67,8 +67,8 @@ fn loop_walk(
     Ok(Walk::from_vertices(list))
 }
 
-// As many walks as given, each of no vertices.
-pub(crate) fn no_walks(alloc: Global, count: usize) -> Result<Vec<Walk>, NoMemory>
+/// As many walks as given, each of no vertices.
+pub fn no_walks(alloc: Global, count: usize) -> Result<Vec<Walk>, NoMemory>
     ensures none { IfOk result (λ walks. walks.items ≡ replicate count []) }
 {
     let mut walks = Vec::with_capacity(alloc, count)?;

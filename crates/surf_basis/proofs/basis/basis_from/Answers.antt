@@ -1,5 +1,5 @@
-use Rattle.surf_basis.proofs.Common.{AreCyclesOf, AreKeptOver, HasBases, as_loops, IsTheBasis, ◌≡◌, ◌<◌, ◌≤◌, ◌^◌, ℕ, List, length, All, sym, ap, ◌∙◌, subst, arith, IfOk-weaker, edge_count, IsSurface, ArePositive, AreBases, lengths_positive, Chosen, IsMeasured, SurfaceTables, AreSigned}
-use Rattle.surf_basis.proofs.Whole.{all_measured, the_basis}
+use Rattle.surf_basis.proofs.Common.{AreCyclesOf, AreKeptOver, refl, HasBases, as_loops, IsTheBasis, ◌≡◌, ◌<◌, ◌≤◌, ◌^◌, ℕ, List, length, All, sym, ap, ◌∙◌, subst, arith, IfOk-weaker, edge_count, IsSurface, ArePositive, AreBases, lengths_positive, Chosen, IsMeasured, SurfaceTables, AreSigned}
+use Rattle.surf_basis.proofs.Whole.{both_hold, the_basis}
 use Rattle.surf_basis.proofs.basis.basis_from.Goals as goal
 
 pub choose-requires-clause-signed : goal.choose-requires-clause-signed
@@ -37,23 +37,6 @@ choose-requires-clause-bases c =
 pub choose-requires-clause-has : goal.choose-requires-clause-has
 choose-requires-clause-has c = subst (λ (xs : List ℕ). HasBases xs c.args.found.now) (sym c.deref.ensures.value) c.in_ok-bases.ensures.bases
 
-pub cycles_of-requires : goal.cycles_of-requires
-cycles_of-requires c =
-    let surface = c.args.surface.now in
-    let mesh = surface.mesh.now in
-    let lengths = surface.lengths.now in
-    let positive = lengths_positive mesh lengths c.law_of_lengths.ensures.lengths c.requires.lengths in
-    let is = c.requires.finder in
-    let now = c.choose.ensures.same ∙ is in
-    let over : AreKeptOver mesh lengths surface.signatures.now c.args.found.now c.deref.result.now (length c.deref.result.now) c.choose.new.choice.kept =
-    subst (λ (f : SurfaceTables). AreKeptOver f.mesh f.lengths f.signs c.args.found.now c.deref.result.now (length c.deref.result.now) c.choose.new.choice.kept) is
-    c.in_ok-choose.ensures.kept in
-    record {
-      measured = subst (λ (f : SurfaceTables). All (λ s. IsMeasured f.mesh f.lengths s.candidate) c.kept.result.now) (sym now)
-          (all_measured mesh lengths c.law_of_surface.ensures.surface positive surface.signatures.now c.args.count c.requires.signed c.args.found.now
-          c.deref.result.now (length c.deref.result.now) c.choose.new.choice.kept c.kept.result.now over c.kept.ensures.kept);
-    }
-
 pub returns : goal.returns
 returns c =
     let args = c.args.surface.now in
@@ -62,18 +45,16 @@ returns c =
     let surface = c.law_of_surface.ensures.surface in
     let positive = lengths_positive mesh lengths c.law_of_lengths.ensures.lengths c.requires.lengths in
     let found = c.args.found.now in
-    let kept = c.kept.result.now in
     let is = c.requires.finder in
-    let now = c.choose.ensures.same ∙ is in
-    let over : AreKeptOver mesh lengths args.signatures.now found c.deref.result.now (length c.deref.result.now) c.choose.new.choice.kept =
-    subst (λ (f : SurfaceTables). AreKeptOver f.mesh f.lengths f.signs found c.deref.result.now (length c.deref.result.now) c.choose.new.choice.kept) is
-    c.in_ok-choose.ensures.kept in
+    let bases = c.deref.result.now in
+    let kept = c.choose.new.choice.kept in
+    let Kept = AreKeptOver c.args.finder.now.mesh c.args.finder.now.lengths c.args.finder.now.signs found bases (length bases) kept in
     let has = subst (λ (xs : List ℕ). HasBases xs found) (sym c.deref.ensures.value) c.in_ok-bases.ensures.bases in
     record {
-      chosen = IfOk-weaker c.cycles_of.result
-          (λ cycles. AreCyclesOf c.choose.new.finder.mesh c.choose.new.finder.lengths kept cycles.items) (λ cycles. IsTheBasis mesh lengths (as_loops cycles.items))
-          (λ cycles are. the_basis mesh lengths surface positive args.signatures.now c.args.count c.requires.signed found c.deref.result.now
-          c.choose.new.choice.kept kept cycles.items has c.requires.places over c.kept.ensures.kept
-          (subst (λ (f : SurfaceTables). AreCyclesOf f.mesh f.lengths kept cycles.items) now are))
-          c.cycles_of.ensures.cycles;
+      chosen = IfOk-weaker c.choose.result (λ cycles. Kept × AreCyclesOf c.args.finder.now.mesh c.args.finder.now.lengths kept cycles.items) (λ cycles. IsTheBasis mesh lengths (as_loops cycles.items))
+          (λ cycles both. the_basis mesh lengths surface positive args.signatures.now c.args.count c.requires.signed found bases kept kept cycles.items
+          has c.requires.places (subst (λ (f : SurfaceTables). AreKeptOver f.mesh f.lengths f.signs found bases (length bases) kept) is both.0) refl
+          (subst (λ (f : SurfaceTables). AreCyclesOf f.mesh f.lengths kept cycles.items) is both.1))
+          (both_hold c.choose.result (λ cycles. Kept) (λ cycles. AreCyclesOf c.args.finder.now.mesh c.args.finder.now.lengths kept cycles.items)
+          c.choose.ensures.kept c.choose.ensures.cycles);
     }

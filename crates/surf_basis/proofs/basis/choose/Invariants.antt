@@ -1,4 +1,4 @@
-use Rattle.surf_basis.proofs.Common.{◌≡◌}
+use Rattle.surf_basis.proofs.Common.{◌≡◌, AreCyclesOf, HaveWalks}
 use Rattle.surf_basis.specs.Kept.{AreKeptOver}
 use Rattle.surf_basis.proofs.basis.choose.Given as goal
 
@@ -8,4 +8,6 @@ invariant-loop-base l = record {
   width : l.choice.width ≡ l.fn.choice.width;
   least : l.least.width ≡ l.fn.choice.width;
   kept : AreKeptOver l.fn.finder.mesh l.fn.finder.lengths l.fn.finder.signs l.found l.bases l.base-index l.choice.kept;
+  cycles : AreCyclesOf l.fn.finder.mesh l.fn.finder.lengths l.choice.kept l.cycles.items;
+  walks : HaveWalks l.fn.finder.mesh l.fn.finder.lengths l.cycles.items;
 }

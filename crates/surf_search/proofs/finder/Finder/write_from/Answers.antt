@@ -1,60 +1,62 @@
-use Rattle.surf_search.proofs.Common.{◌≡◌, ◌<◌, ◌+◌, ◌/◌, [], length, get_or, get_or_default, eq-eqb, false≢true, List, ℕ, refl, sym, ap, ◌∙◌, subst, arith, on_ok_weaker, IsNear, SurfaceTables, AreWritten, AreWrittenTo, IsMeasured}
-use Rattle.surf_search.proofs.Told.{links_positive, near_there}
-use Rattle.surf_search.proofs.Walked.{ends_reached, written_from, written_there}
+use Rattle.surf_search.proofs.Common.{◌≡◌, ◌<◌, ◌≤◌, ◌+◌, ◌/◌, [], length, get_or, get_or_default, eq-eqb, false≢true, List, ℕ, refl, sym, ap, ◌∙◌, subst, arith, on_ok_weaker, IsNear, SurfaceTables, AreWritten, AreWrittenTo, IsMeasured, IsReachedTo}
+use Rattle.surf_search.proofs.Told.{links_positive}
+use Rattle.surf_search.proofs.Walked.{ends_reached, reached_there, written_from, written_there}
 use Rattle.surf_search.proofs.finder.Finder.write_from.Goals as goal
 
 pub write_walks-requires-clause-base : goal.write_walks-requires-clause-base
 write_walks-requires-clause-base c =
-    let inside = c.self.inside in
-    let mesh = inside.surface.mesh.now in
-    let lengths = inside.links.lengths in
+    let mesh = c.self.inside.surface.mesh.now in
+    let lengths = c.self.inside.links.lengths in
     let s = get_or c.args.kept.now c.args.k c.index-kept-k.result in
-    let far = c.greatest_at-far.result / 2 in
-    let t = c.grow.new.self in
-    let near : IsNear mesh lengths s.candidate.base far t =
-    near_there mesh inside.links.mesh lengths inside.links.lengths s.candidate.base far far t c.self.invariant.0 refl refl c.grow.ensures.near in
+    let base = (get_or c.args.kept.now c.args.k c.index-kept-k.result).candidate.base in
+    let r = reached_there mesh c.self.inside.links.mesh lengths base (c.greatest_at-far.result / 2) c.grow.new.self.desk c.self.invariant.0 c.grow.ensures.reached in
     let measured : IsMeasured mesh lengths s.candidate =
     subst (λ (v : SurfaceTables). IsMeasured v.mesh v.lengths s.candidate) (sym c.self.view_is)
     (c.requires.measured c.args.k c.index-kept-k.result c.requires.place) in
-    subst (λ n. n < mesh.vertices) (sym near.base_is) measured.base_in
+    subst (λ n. n < mesh.vertices) (sym r.near.base_is) measured.base_in
+
+pub write_walks-requires-clause-reached : goal.write_walks-requires-clause-reached
+write_walks-requires-clause-reached c =
+    let mesh = c.self.inside.surface.mesh.now in
+    let lengths = c.self.inside.links.lengths in
+    let t = c.grow.new.self.desk in
+    let base = (get_or c.args.kept.now c.args.k c.index-kept-k.result).candidate.base in
+    let r = reached_there mesh c.self.inside.links.mesh lengths base (c.greatest_at-far.result / 2) c.grow.new.self.desk c.self.invariant.0 c.grow.ensures.reached in
+    record { far = r.went; near = subst (λ b. IsNear mesh lengths b r.went t) (sym r.near.base_is) r.near }
 
 pub write_walks-requires-clause-ends : goal.write_walks-requires-clause-ends
 write_walks-requires-clause-ends c = λ j x j_in at.
     let inside = c.self.inside in
     let mesh = inside.surface.mesh.now in
     let lengths = inside.links.lengths in
+    let t = c.grow.new.self.desk in
     let base = (get_or c.args.kept.now c.args.k c.index-kept-k.result).candidate.base in
-    let greatest = c.greatest_at-far.result in
-    let t = c.grow.new.self in
-    let near : IsNear mesh lengths base (greatest / 2) t =
-    near_there mesh inside.links.mesh lengths inside.links.lengths base (greatest / 2) (greatest / 2) t c.self.invariant.0 refl refl c.grow.ensures.near in
+    let r = reached_there mesh c.self.inside.links.mesh lengths base (c.greatest_at-far.result / 2) c.grow.new.self.desk c.self.invariant.0 c.grow.ensures.reached in
     let candidate = (get_or c.args.kept.now j x).candidate in
-    let here : candidate.base ≡ base = at ∙ near.base_is in
+    let here = at ∙ r.near.base_is in
     let measured : IsMeasured mesh lengths candidate =
     subst (λ (v : SurfaceTables). IsMeasured v.mesh v.lengths candidate) (sym c.self.view_is) (c.requires.measured j x j_in) in
     let positive = links_positive mesh inside.links.mesh lengths inside.links.rows c.self.invariant.0 c.law_of_links.ensures.links in
-    ends_reached mesh lengths c.law_of_surface.ensures.surface positive candidate greatest t measured (c.greatest_at-far.ensures.greatest j x j_in here)
-    (subst (λ b. IsNear mesh lengths b (greatest / 2) t) (sym here) near)
+    ends_reached mesh lengths c.law_of_surface.ensures.surface positive candidate c.greatest_at-far.result r.went t measured
+    (c.greatest_at-far.ensures.greatest j x j_in here) r.enough (subst (λ b. IsNear mesh lengths b r.went t) (sym here) r.near)
 
 pub returns-clause-written : goal.returns-clause-written
 returns-clause-written c =
-    let inside = c.self.inside in
-    let mesh = inside.surface.mesh.now in
-    let lengths = inside.links.lengths in
+    let mesh = c.self.inside.surface.mesh.now in
+    let lengths = c.self.inside.links.lengths in
     let kept = c.args.kept.now in
     let k = c.args.k in
     let s = get_or c.args.kept.now c.args.k c.index-kept-k.result in
-    let far = c.greatest_at-far.result / 2 in
     let old = c.args.walks.now in
     let new = c.write_walks.new.walks in
-    let near : IsNear mesh lengths s.candidate.base far c.grow.new.self =
-    near_there mesh inside.links.mesh lengths inside.links.lengths s.candidate.base far far c.grow.new.self c.self.invariant.0 refl refl c.grow.ensures.near in
+    let base = (get_or c.args.kept.now c.args.k c.index-kept-k.result).candidate.base in
+    let r = reached_there mesh c.self.inside.links.mesh lengths base (c.greatest_at-far.result / 2) c.grow.new.self.desk c.self.invariant.0 c.grow.ensures.reached in
     let before : AreWrittenTo mesh lengths kept k old =
     subst (λ (v : SurfaceTables). AreWrittenTo v.mesh v.lengths kept k old) (sym c.self.view_is) c.requires.before in
     on_ok_weaker c.write_walks.result
     (λ w. subst (λ (v : SurfaceTables). AreWrittenTo v.mesh v.lengths kept (k + 1) new) c.self.view_is
     (written_from mesh lengths kept s.candidate.base old k s new before
-    (subst (λ b. AreWritten mesh lengths kept b (length kept) old new) near.base_is w) c.requires.place (get_or_default kept k c.index-kept-k.result s c.requires.place) refl))
+    (subst (λ b. AreWritten mesh lengths kept b (length kept) old new) r.near.base_is w) c.requires.place (get_or_default kept k c.index-kept-k.result s c.requires.place) refl))
     c.write_walks.ensures.written
 
 pub returns-then-not-is_empty-clause-written : goal.returns-then-not-is_empty-clause-written
