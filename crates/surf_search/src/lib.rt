@@ -23,18 +23,18 @@
 //! and each round takes what costs less, which is estimated from how many vertices are within a
 //! radius (`costs.rt`).
 //!
-//! In a round the greatest caps are first (`round.rt`). Of one cap the vertices with many edges are
-//! first, and the others are in an order that scatters them, so that short loops of all parts are
-//! found soon. To each search the ways through vertices that are done with are barred: the edges
-//! there are as long as an edge may be. Vertex 0 is done with from the start, since it was searched
-//! as far as the surface goes. A search needs no barred edges, since a loop that goes through such
-//! a vertex is a sum of loops there, for which what is kept is enough already
-//! (`law_of_barred_searches` of `surf_caps`). At the end of a round no vertex is barred any more, so
-//! that one finder serves all rounds. A search may go somewhat farther than it must. Where all
-//! loops that it finds are longer than kept ones of which they are sums, by more than a way there
-//! and back, the vertices that are so near are done with too. Loops that are sums of kept ones up
-//! to the length of the round before are no matter to that. Where searches tell nothing of the
-//! vertices near them they go farther ever more seldom.
+//! In a round the greatest caps are first (`round.rt`). Vertices with many edges are searched in
+//! each round, the first of their cap: whoever comes to one comes to all around it. The others are
+//! in an order that scatters them, so that short loops of all parts are found soon. To each search
+//! the ways through vertices that are done with are barred: the edges there are as long as an edge
+//! may be. Vertex 0 is done with from the start, since it was searched as far as the surface goes.
+//! A search needs no barred edges, since a loop that goes through such a vertex is a sum of loops
+//! there, for which what is kept is enough already (`law_of_barred_searches` of `surf_caps`). At
+//! the end of a round no vertex is barred any more, so that one finder serves all rounds. A search
+//! may go somewhat farther than it must. Where all loops that it finds are longer than kept ones of
+//! which they are sums, by more than a way there and back, the vertices that are so near are done
+//! with too. Loops that are sums of kept ones up to the length of the round before are no matter to
+//! that. Where searches tell nothing of the vertices near them they go farther ever more seldom.
 //!
 //! Whether a loop is independent of others is told by its signature, a sum over its edges of
 //! signatures that one base gives for all.
