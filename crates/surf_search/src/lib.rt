@@ -37,7 +37,9 @@
 //! that. Where searches tell nothing of the vertices near them they go farther ever more seldom.
 //!
 //! Whether a loop is independent of others is told by its signature, a sum over its edges of
-//! signatures that one base gives for all.
+//! signatures that one base gives for all. Edges with the same signature are of one kind, and ways
+//! with the same sum have one number. So three numbers tell the class of the loop of an edge, and
+//! most loops that a search meets are known by them without a sum (`keys.rt`).
 #![tactic(auto)]
 
 mod caps;

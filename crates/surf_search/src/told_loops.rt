@@ -61,7 +61,8 @@ fn take_first(ties: Ties, candidate: Candidate, listed: &mut Signed)
     }
 }
 
-// What is known of the class of a key: where its slot tells of it or of one with the same sum, that.
+// Looks up the class of a key where its hash leads. There may be another key, whose listed loop has
+// the same class.
 fn look_up(reached: &Reached<'_, '_>, key: &Key, keys: &Keys, found: &[Signed]) -> Standing
     requires key { IsKey reached.now.ways.now reached.now.kinds.now key.now }
     requires noted { All (IsNoted reached.now.ways.now reached.now.kinds.now (signatures found.now))

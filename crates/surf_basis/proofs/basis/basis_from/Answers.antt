@@ -1,4 +1,4 @@
-use Rattle.surf_basis.proofs.Common.{AreCyclesOf, AreKeptOver, refl, HasBases, as_loops, IsTheBasis, ◌≡◌, ◌<◌, ◌≤◌, ◌^◌, ℕ, List, length, All, sym, ap, ◌∙◌, subst, arith, IfOk-weaker, edge_count, IsSurface, ArePositive, AreBases, lengths_positive, Chosen, IsMeasured, SurfaceTables, AreSigned}
+use Rattle.surf_basis.proofs.Common.{AreCyclesOf, AreKeptOver, refl, HasBases, as_loops, IsTheBasis, ◌≡◌, ◌<◌, ◌≤◌, ◌^◌, ℕ, List, length, sym, ap, ◌∙◌, subst, arith, IfOk-weaker, edge_count, IsSurface, ArePositive, AreBases, lengths_positive, Chosen, SurfaceTables, AreSigned}
 use Rattle.surf_basis.proofs.Whole.{both_hold, the_basis}
 use Rattle.surf_basis.proofs.basis.basis_from.Goals as goal
 

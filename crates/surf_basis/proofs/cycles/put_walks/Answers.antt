@@ -1,4 +1,4 @@
-use Rattle.surf_basis.proofs.Common.{◌≡◌, ◌<◌, ◌≤◌, ◌-◌, length, get_or, refl, arith, nat_tests, Candidate}
+use Rattle.surf_basis.proofs.Common.{◌≡◌, ◌-◌, get_or, refl, arith, nat_tests, Candidate}
 use Rattle.surf_basis.proofs.Cycled.{last_off, put_more, put_none}
 use Rattle.surf_basis.proofs.cycles.put_walks.Goals as goal
 

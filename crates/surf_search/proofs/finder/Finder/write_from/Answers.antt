@@ -1,4 +1,4 @@
-use Rattle.surf_search.proofs.Common.{◌≡◌, ◌<◌, ◌≤◌, ◌+◌, ◌/◌, [], length, get_or, get_or_default, eq-eqb, false≢true, List, ℕ, refl, sym, ap, ◌∙◌, subst, arith, on_ok_weaker, IsNear, SurfaceTables, AreWritten, AreWrittenTo, IsMeasured, IsReachedTo}
+use Rattle.surf_search.proofs.Common.{◌≡◌, ◌<◌, ◌+◌, ◌/◌, [], length, get_or, get_or_default, eq-eqb, false≢true, List, ℕ, refl, sym, ap, ◌∙◌, subst, arith, on_ok_weaker, IsNear, SurfaceTables, AreWritten, AreWrittenTo, IsMeasured}
 use Rattle.surf_search.proofs.Told.{links_positive}
 use Rattle.surf_search.proofs.Walked.{ends_reached, reached_there, written_from, written_there}
 use Rattle.surf_search.proofs.finder.Finder.write_from.Goals as goal

@@ -1,4 +1,4 @@
-use Rattle.surf_search.proofs.Common.{◌≡◌, ◌+◌, All, sym, ◌∙◌, subst, SurfaceTables, AreWrittenTo, IsMeasured}
+use Rattle.surf_search.proofs.Common.{◌+◌, All, sym, ◌∙◌, subst, SurfaceTables, AreWrittenTo, IsMeasured}
 use Rattle.surf_search.proofs.Walked.{all_written}
 use Rattle.surf_search.proofs.finder.Finder.write_walks.Goals as goal
 
