@@ -173,12 +173,3 @@ module _ (mesh : Mesh) (given : List ℕ) where
         length_past barred (slice_index_or barred v false) (link_in (slice_index_or rows v []) k)
         ≡ edge_length (barred_lengths mesh barred given) (link_in (slice_index_or rows v []) k).edge
     row_lengths v l = length_there barred v (slice_index_or rows v []) (are.at v l) are.as_many
-
-    -- one link of a row
-    module _ (v : ℕ) (v_in : v < mesh.vertices) (x : Link) (there : Contains (slice_index_or rows v []) x) where
-      pub link_within : x.to < mesh.vertices
-      link_within = item_in mesh (barred_lengths mesh barred given) v (slice_index_or rows v []) (barred_row v v_in) there.0 there.1 x (sym there.2)
-
-      pub link_length : length_past barred (slice_index_or barred v false) x ≡ edge_length (barred_lengths mesh barred given) x.edge
-      link_length = item_with mesh (barred_lengths mesh barred given) v (slice_index_or rows v []) (barred_row v v_in) there.0 there.1 x (sym there.2)
-          (λ y. length_past barred (slice_index_or barred v false) y ≡ edge_length (barred_lengths mesh barred given) y.edge) (row_lengths v v_in)

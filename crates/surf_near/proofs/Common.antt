@@ -7,7 +7,7 @@ pub use Rattle.surf_heap.specs.Entries.{Entries, IsEmpty, IsLeastEntry, entry_of
 pub use Rattle.surf_lengths.specs.Lengths.{AreLengths, IsLength, longest}
 pub use Rattle.surf_mesh.proofs.LinkLaws.{cells_few, edge_row}
 pub use Rattle.surf_mesh.specs.Links.{IsRow, edge_link, link_at, other_of}
-pub use Rattle.surf_near.specs.Links.{AreEvenOrPast, AreGiven, AreGivenAt, AreGreatFrom, AreLinks, AreLinksAt, AreSizes, AreSmallUpTo, AreUpToOrPast, IsLinkAt, IsShutAt, KeepsOff, LinkTables, barred_lengths, degree, ends_of, graph_of, is_barred, length_past, link_in, links_of, weight_of}
+pub use Rattle.surf_near.specs.Links.{AreEvenOrPast, AreGiven, AreGivenAt, AreGreatFrom, AreLinks, AreLinksAt, AreSizes, AreSmallUpTo, AreUpToOrPast, IsShutAt, KeepsOff, LinkTables, barred_lengths, degree, ends_of, graph_of, is_barred, length_past, link_in, weight_of}
 pub use Rattle.surf_near.specs.Near.{IsNear, IsNearTo, NearTables, never}
 pub use Rattle.surf_near.specs.Searching.{HasRoom, IsBlank, IsChoice, IsChosenAt, IsFound, IsListed, IsLooked, IsQueue, IsReachedNear, IsTrimmed, OffersNear}
 pub use Rattle.surf_near.specs.declared.links.Link.{Link}

@@ -1,5 +1,5 @@
 -- The links of a vertex are the edges there.
-use Rattle.surf_near.proofs.Common.{◌≡◌, ℕ, ◌<◌, ◌≤◌, ◌^◌, ◌⊎◌, true, ◌&&◌, ◌||◌, eqb, eq-eqb, List, length, map, get_or, refl, sym, ap, ◌∙◌, subst, arith, inl, inr, cases_lt, eqb-true, or_cases, or_left, or_right, and_parts, and_from, get_or-map, get_or_default, get_or_past, length-map, map-map, Contains, joins, primal, Mesh, IsMesh, edge_count, ends, edge_length, cells_of, link_at, IsRow, other_of, edge_link, edge_row, cells_few, longest, short_lengths, Link, LinkTables, weight_of, ends_of, link_in, links_of, IsLinkAt, AreLinksAt, AreLinks, AreGivenAt, AreUpToOrPast, AreEvenOrPast}
+use Rattle.surf_near.proofs.Common.{◌≡◌, ℕ, ◌<◌, ◌≤◌, ◌^◌, ◌⊎◌, true, ◌&&◌, ◌||◌, eqb, eq-eqb, List, length, map, get_or, refl, sym, ap, ◌∙◌, subst, arith, inl, inr, cases_lt, eqb-true, or_cases, or_left, or_right, and_parts, and_from, get_or-map, get_or_default, get_or_past, length-map, map-map, joins, primal, Mesh, IsMesh, edge_count, ends, edge_length, cells_of, link_at, IsRow, other_of, edge_link, edge_row, cells_few, longest, short_lengths, Link, LinkTables, weight_of, ends_of, link_in, AreLinksAt, AreLinks, AreGivenAt, AreUpToOrPast, AreEvenOrPast}
 use Rattle.surf_surfaces.proofs.meshes.PairLaws.{pair_same}
 use Rattle.surf_soup.specs.Ring.{AreEdgesAt}
 
@@ -100,10 +100,6 @@ module _ (mesh : Mesh) (lengths : List ℕ) (v : ℕ) (links : List Link) (are :
   -- what holds of the list's links holds of the read one
   pub item_with : (P : Link → Type 0) → ((n : ℕ) → n < length links → P (link_in links n)) → P x
   item_with P all = subst P item_is (all k l)
-
-pub item_there : (net : LinkTables) (v : ℕ) (links : List Link) → links ≡ links_of net v → (k : ℕ) → k < length links →
-    (x : Link) → x ≡ get_or links k x → IsLinkAt net v x
-item_there net v links same k l x read = subst (λ (xs : List Link). Contains xs x) same (k, l, sym read)
 
 -- what holds of the lengths and of the number of vertices
 module _ (net : LinkTables) (are : AreLinks net.mesh net.lengths net.rows) where

@@ -1,6 +1,6 @@
 -- The links of the vertices of a mesh, with the lengths of its edges, and vertices that are barred.
 use Rattle.std.specs.Prelude.{◌≡◌, ℕ, ◌<◌, ◌≤◌, ◌^◌, ◌⊎◌, Bool, true, false, ◌||◌, if◌then◌else◌, List, [], length, map}
-use Rattle.std.specs.Prelude.{Contains, Option, slice_index, slice_index_or}
+use Rattle.std.specs.Prelude.{Option, slice_index, slice_index_or}
 use Rattle.std.specs.List.{range_with_len}
 use Rattle.surf_z2.specs.Parity.{count_below}
 use Rattle.surf_graphs.specs.Graphs.{Graph}
@@ -37,12 +37,6 @@ ends_of link = (link.to, link.edge)
 
 abbrev pub link_in : List Link → ℕ → Link
 link_in links k = slice_index_or links k (record { to = 0; length = 0; edge = 0 })
-
-abbrev pub links_of : LinkTables → ℕ → List Link
-links_of t v = slice_index_or t.rows v []
-
-abbrev pub IsLinkAt : LinkTables → ℕ → Link → Type 0
-IsLinkAt t v link = Contains (links_of t v) link
 
 -- The links of a vertex: one for each edge there, with its other end. A link has the length of its edge, unless this
 -- edge is barred.

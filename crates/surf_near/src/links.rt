@@ -6,7 +6,7 @@ ghost use Rattle.surf_surfaces.specs.Surface.{edge_count};
 ghost use Rattle.surf_surfaces.specs.Walk.{edge_length};
 ghost use Rattle.surf_lengths.specs.Lengths.{longest};
 ghost use Rattle.surf_near.specs.Links.{AreLinks, AreLinksAt, AreGivenAt, AreUpToOrPast};
-ghost use Rattle.surf_near.specs.Links.{IsLinkAt, links_of, link_in, degree, length_past};
+ghost use Rattle.surf_near.specs.Links.{link_in, degree, length_past};
 ghost use Rattle.surf_near.specs.Links.{AreEvenOrPast, KeepsOff, IsShutAt};
 
 use crate::sizes::{Sizes, sizes_of};
@@ -213,15 +213,6 @@ impl<'m> Links<'m> {
         }
     }
 
-    /// The links of a vertex. Each has the length that was given for its edge.
-    pub fn at(&self, v: VertexId) -> &[Link]
-        requires vertex { v < self.now.mesh.vertices }
-        ensures row { AreLinksAt self.now.mesh self.now.lengths v result.now }
-        ensures links { result.now ≡ links_of self.now v }
-    {
-        self.rows.row(v.index())
-    }
-
     /// The links of a vertex, with the flags by which their edges are barred.
     pub(crate) fn around(&self, v: VertexId) -> Around<'_>
         requires vertex { v < self.now.mesh.vertices }
@@ -240,17 +231,6 @@ impl<'m> Links<'m> {
             barred: &self.barred,
             shut: self.barred[v.index()],
         }
-    }
-
-    /// The length of the edge of a link of a vertex: the greatest that there is, if an end of it is
-    /// barred.
-    #[inline]
-    pub fn length(&self, v: VertexId, link: &Link) -> u32
-        requires vertex { v < self.now.mesh.vertices }
-        requires link { IsLinkAt self.now v link.now }
-        ensures length { result ≡ edge_length self.now.lengths link.now.edge }
-    {
-        length_past(&self.barred, self.barred[v.index()], link)
     }
 
     /// The length of an edge: the greatest that there is, if an end of it is barred.

@@ -25,8 +25,7 @@ pub use Rattle.surf_firsts.proofs.NearVertices.{near_vertices_need_no_more}
 pub use Rattle.surf_firsts.specs.Near.{AgreeOff, DependOnShorter, IsSoughtFromStart, is_shorter_by, with_near}
 pub use Rattle.surf_graphs.proofs.Turned.{way_goes_on, way_reversed}
 pub use Rattle.surf_lengths.proofs.Positive.{lengths_positive}
-pub use Rattle.surf_near.proofs.Linking.{item_edge_in, item_in, item_there, link_all, link_ends}
-pub use Rattle.surf_near.specs.Links.{AreLinks, AreLinksAt, IsShutAt, KeepsOff, link_in}
+pub use Rattle.surf_near.specs.Links.{AreLinks, IsShutAt, KeepsOff}
 pub use Rattle.surf_near.specs.Near.{IsNear, IsNearTo, NearTables, is_near}
 pub use Rattle.surf_near.specs.declared.links.Link.{Link}
 pub use Rattle.surf_search.proofs.FoundLoops.{found_of}
