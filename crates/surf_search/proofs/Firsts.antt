@@ -1,5 +1,5 @@
 -- The first of the loops that a search tells, without a list of them.
-use Rattle.surf_search.proofs.Common.{Contains, All-push, All-contains, Contains-append_left, Contains-append_right, Contains-get_or, get_or, cases_lt, arith, subst, edge_count, ◌≡◌, ℕ, ◌<◌, ◌≤◌, ◌+◌, true, false, List, [], ◌∷◌, ◌++◌, length, All, Option, Some, None, refl, sym, ◌∙◌, ap, inl, inr, slice_index, cases_Bool, cases_eq, both_ways, ends, fold-append, Candidate, Signed, Search, IsTold, is_wanted, told_loop, earlier_of, first_from, is_earlier, first_with, IsFirstTold}
+use Rattle.surf_search.proofs.Common.{Contains, All-push, All-contains, Contains-append_left, Contains-append_right, Contains-get_or, get_or, cases_lt, arith, subst, edge_count, ◌≡◌, ℕ, ◌<◌, ◌≤◌, ◌+◌, true, false, List, [], ◌∷◌, ◌++◌, All, Option, Some, None, refl, sym, ◌∙◌, ap, inl, inr, slice_index, cases_Bool, cases_eq, both_ways, fold-append, Candidate, Signed, Search, IsTold, is_wanted, told_loop, earlier_of, first_from, is_earlier, first_with, IsFirstTold}
 use Rattle.surf_search.proofs.Rising.{starts_all}
 use Rattle.surf_search.specs.Rises.{AreStarts}
 

@@ -1,19 +1,18 @@
 -- Keys of loops: what they tell, and what is noted of them.
-use Rattle.surf_search.proofs.Common.{◌≡◌, ◌≢◌, ◌⊎◌, ℕ, ◌<◌, ◌+◌, ◌++◌, ◌∷◌, [], true, not, ◌==◌, List, length, map, slice_index, bit_xor, get_or, set, refl, sym, ap, ◌∙◌, subst, arith, inl, inr, nat_tests, and_parts, and_from, All, All-push, Option, Some, None, get_or_default, get_or-map, length-map, edge_count, ends, Candidate, Signed, signatures, place_of, is_sought, class_at, Search, reached_at, is_between, is_wanted, told_loop, IsTold, HasNoLater, precedes}
+use Rattle.surf_search.proofs.Common.{◌≡◌, ◌≢◌, ◌⊎◌, ℕ, ◌<◌, ◌+◌, ◌++◌, ◌∷◌, [], true, not, ◌==◌, List, length, slice_index, bit_xor, get_or, set, sym, ap, ◌∙◌, subst, arith, inl, inr, nat_tests, and_parts, and_from, All, All-push, Option, Some, None, get_or-map, length-map, edge_count, ends, Candidate, Signed, signatures, place_of, is_sought, class_at, Search, reached_at, is_between, is_wanted, told_loop, HasNoLater, precedes}
 use Rattle.std.specs.Int.Bits.{xor_assoc, xor_comm}
 use Rattle.std.proofs.lemmas.List.{map-set, set-get_or, map-append, get_or_append_left, length-append}
 use Rattle.std.proofs.Math.Seq.{get_or-append_seam}
 use Rattle.std.proofs.lemmas.List.Elements.{All-weaker}
 use Rattle.surf_search.specs.Found.{AreListed, IsKeyOf, IsSearched}
-use Rattle.surf_search.specs.Keys.{IsKey, IsNoted, IsPlaced, key_class}
-use Rattle.surf_search.specs.Kinds.{KindTables}
+use Rattle.surf_search.specs.Keys.{IsNoted, IsPlaced, key_class}
 use Rattle.surf_search.specs.Rises.{IsRise}
 use Rattle.surf_search.specs.declared.keys.Key.{Key}
 use Rattle.surf_search.specs.declared.keys.Noted.{Noted}
 use Rattle.surf_search.specs.declared.reached.Reached.{Reached}
 use Rattle.surf_search.specs.declared.rises.Rise.{Rise}
 use Rattle.surf_search.specs.declared.told_loops.Ties.{Ties}
-use Rattle.surf_search.proofs.Told.{rise_ends, told_stands, told_pushed, no_later_all}
+use Rattle.surf_search.proofs.Told.{rise_ends, told_stands, told_pushed}
 
 -- ---- what a key tells
 

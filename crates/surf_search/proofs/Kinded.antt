@@ -1,9 +1,9 @@
 -- The kinds of edges, edge by edge.
-use Rattle.surf_search.proofs.Common.{◌≡◌, ℕ, ◌<◌, ◌≤◌, ◌+◌, ◌++◌, ◌∷◌, [], List, length, slice_index, refl, sym, ap, ◌∙◌, subst, arith, inl, inr, cases_eq, eq-eqb, ◌==◌, CotreeTables}
+use Rattle.surf_search.proofs.Common.{◌≡◌, ℕ, ◌<◌, ◌≤◌, ◌+◌, ◌++◌, ◌∷◌, [], List, length, slice_index, sym, ap, ◌∙◌, arith, inl, inr, cases_eq, eq-eqb, ◌==◌, CotreeTables}
 use Rattle.std.proofs.Math.Seq.{get_or-append_seam}
 use Rattle.surf_surfaces.proofs.Common.{ne_eqb}
 use Rattle.std.proofs.lemmas.List.{get_or_append_left, length-append}
-use Rattle.surf_search.specs.Kinds.{AreKinds, KindTables, signature_at}
+use Rattle.surf_search.specs.Kinds.{AreKinds, KindTables}
 
 -- those of the first so many edges
 pub record AreKindsTo (s : CotreeTables) (count : ℕ) (kinds signatures : List ℕ) : Type 0 where

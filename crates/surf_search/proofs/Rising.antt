@@ -1,6 +1,6 @@
 -- Where the edges with each lesser end start.
-use Rattle.surf_search.proofs.Common.{◌≡◌, ℕ, ◌<◌, ◌≤◌, ◌+◌, ◌-◌, ◌++◌, true, false, List, [], length, get_or, slice_index, replicate, refl, sym, ap, ◌∙◌, subst, arith, inl, inr, ltb, ltb-true, cases_lt, cases_eq, nat_tests, Mesh, edge_count, ends}
-use Rattle.surf_surfaces.specs.Mesh.{edges, pair_lt}
+use Rattle.surf_search.proofs.Common.{◌≡◌, ℕ, ◌<◌, ◌≤◌, ◌+◌, ◌-◌, ◌++◌, true, false, List, [], length, slice_index, replicate, refl, sym, ap, ◌∙◌, arith, inl, inr, ltb, ltb-true, cases_lt, cases_eq, nat_tests, Mesh, edge_count, ends}
+use Rattle.surf_surfaces.specs.Mesh.{edges}
 use Rattle.surf_surfaces.proofs.meshes.EdgeLaws.{edges-rise, rising_at}
 use Rattle.surf_surfaces.proofs.meshes.PairLaws.{pair_lt-cases}
 use Rattle.std.proofs.lemmas.Bool.{lt-ltb, le-ltb}

@@ -1,4 +1,4 @@
-use Rattle.surf_search.proofs.Common.{◌<◌, ◌≡◌, inl, inr, ◌∙◌, arith, length, reached_at}
+use Rattle.surf_search.proofs.Common.{inl, inr, ◌∙◌, reached_at}
 use Rattle.surf_search.proofs.Keyed.{key_tells}
 use Rattle.surf_search.proofs.Told.{rise_ends}
 use Rattle.surf_search.proofs.reached.key_of.Goals as goal

@@ -1,4 +1,4 @@
-use Rattle.surf_search.proofs.Common.{◌≡◌, ◌<◌, ◌≤◌, ◌+◌, ◌-◌, ◌++◌, ◌∷◌, [], length, replicate, ap, ◌∙◌, arith}
+use Rattle.surf_search.proofs.Common.{◌≡◌, ◌+◌, ◌-◌, ◌++◌, ◌∷◌, [], length, replicate, ap, ◌∙◌, arith}
 use Rattle.std.proofs.lemmas.List.{append_assoc, replicate_more}
 use Rattle.surf_search.proofs.rises.fill.Goals as goal
 

@@ -1,4 +1,4 @@
-use Rattle.surf_search.proofs.Common.{ℕ, ◌<◌, ◌≡◌, sym, subst, ends_in, ends}
+use Rattle.surf_search.proofs.Common.{ℕ, ◌<◌, sym, subst, ends_in}
 use Rattle.surf_search.proofs.rises.rise_of.Goals as goal
 
 pub returns-clause-rise : goal.returns-clause-rise

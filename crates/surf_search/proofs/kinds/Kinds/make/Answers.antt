@@ -1,4 +1,4 @@
-use Rattle.surf_search.proofs.Common.{◌≡◌, slice_index, sym, ap, ◌∙◌}
+use Rattle.surf_search.proofs.Common.{◌≡◌, slice_index, ap, ◌∙◌}
 use Rattle.surf_search.proofs.Kinded.{kinds_more}
 use Rattle.surf_search.proofs.kinds.Kinds.make.Goals as goal
 

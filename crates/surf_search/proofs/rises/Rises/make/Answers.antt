@@ -1,4 +1,4 @@
-use Rattle.surf_search.proofs.Common.{◌<◌, ◌≤◌, ◌+◌, ◌-◌, ◌++◌, ◌≡◌, ℕ, replicate, length, sym, ap, ◌∙◌, arith, edge_count, ends, ends_in}
+use Rattle.surf_search.proofs.Common.{◌<◌, ◌+◌, ◌-◌, ◌++◌, ◌≡◌, ℕ, replicate, length, ap, ◌∙◌, arith, edge_count, ends, ends_in}
 use Rattle.surf_search.proofs.Rising.{low_rises, starts_filled, starts_next, starts_last, starts_done}
 use Rattle.surf_search.proofs.rises.Rises.make.Goals as goal
 
