@@ -1,10 +1,10 @@
 -- The lengths with bars, and what barring one more vertex does to them.
-use Rattle.surf_near.proofs.Common.{◌≡◌, ℕ, ◌<◌, ◌≤◌, ◌⊎◌, [], Bool, true, false, ◌||◌, if◌then◌else◌, eqb, eq-eqb, List, length, set, replicate, refl, sym, ap, ◌∙◌, subst, arith, inl, inr, get_or-set_same, get_or-set_other, cases_Bool, cases_lt, eqb-true, or_cases, or_left, or_right, or_from, or_parts, ext_get_or, get_or-replicate, get_or_past, length-replicate, All-from_get_or, get_or-map-range_with_len, length-map-range_with_len, Mesh, edge_count, ends, edge_length, slice_index_or, Contains, Option, Some, None, longest, IsLength, AreLengths, short_lengths, Link, AreLinks, AreLinksAt, AreGiven, AreGivenAt, AreUpToOrPast, AreEvenOrPast, AreSizes, link_in, length_past, is_barred, barred_lengths, KeepsOff, IsShutAt}
+use Rattle.surf_near.proofs.Common.{◌≡◌, ℕ, ◌<◌, ◌≤◌, ◌⊎◌, [], Bool, true, false, ◌||◌, if◌then◌else◌, eqb, eq-eqb, List, length, set, replicate, refl, sym, ap, ◌∙◌, subst, arith, inl, inr, get_or-set_same, get_or-set_other, cases_Bool, cases_lt, eqb-true, or_cases, or_left, or_right, or_from, or_parts, ext_get_or, get_or-replicate, get_or_past, length-replicate, All-from_get_or, get_or-map-range_with_len, length-map-range_with_len, Mesh, edge_count, ends, edge_length, slice_index_or, Option, Some, None, longest, IsLength, AreLengths, short_lengths, Link, AreLinks, AreLinksAt, AreGiven, AreGivenAt, AreUpToOrPast, AreEvenOrPast, AreSizes, link_in, length_past, is_barred, barred_lengths, KeepsOff, IsShutAt}
 use Rattle.std.specs.Prelude.{All, slice_index, MatchOption, ⊤}
 use Rattle.surf_buckets.specs.declared.TheConstants.{BUCKETS}
 use Rattle.surf_tree.specs.Queues.{IsEvenness}
 use Rattle.surf_near.specs.declared.sizes.Sizes.{Sizes}
-use Rattle.surf_near.proofs.Linking.{link_to_in, link_edge_in, link_ends, item_in, item_with}
+use Rattle.surf_near.proofs.Linking.{link_to_in, link_edge_in, link_ends}
 
 at_bar : (bar : Bool) (n : ℕ) → bar ≡ true → (if bar then longest else n) ≡ longest
 at_bar bar n e = rw e refl
