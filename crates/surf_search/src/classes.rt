@@ -16,6 +16,23 @@ struct Member {
     next: u32,
 }
 
+// The chain of a hash.
+fn chain_of(hash: u64) -> usize
+    ensures chain { result < 1024 }
+{
+    (hash % CHAINS) as usize
+}
+
+// Empties the chains that classes are in: in most searches these are few of all.
+fn forget_chains(members: &[Member], firsts: &mut [u32])
+    requires chains { length firsts.old ≡ 1024 }
+    ensures count { length firsts.new ≡ length firsts.old }
+{
+    for member in members {
+        firsts[chain_of(member.hash)] = NOBODY;
+    }
+}
+
 /// Classes in the order in which they came. Each is in the chain of its hash, so that it is found
 /// again. The class that came last is the first there: the ways to vertices that are settled one
 /// after the other often have one class.
@@ -53,9 +70,9 @@ impl Classes {
         ensures none { OnOk result (slice_index self.new 0 ≡ 0) }
         ensures one { length self.new ≤ 1 }
     {
+        forget_chains(&self.members, &mut self.firsts);
         self.list.clear();
         self.members.clear();
-        self.firsts.fill(NOBODY);
         self.members.push(Member {
             hash: 0,
             next: NOBODY,
@@ -85,7 +102,7 @@ impl Classes {
         ensures found { IfSome result (λ k. (k < length self.now)
             × (slice_index self.now k ≡ class.now)) }
     {
-        let mut number = self.firsts[(hash % CHAINS) as usize];
+        let mut number = self.firsts[chain_of(hash)];
         for _step in 0..self.list.len() {
             let k = number as usize;
             if k >= self.list.len() {
@@ -113,7 +130,7 @@ impl Classes {
         if let Some(number) = self.find(&class, hash) {
             return Ok(number);
         }
-        let chain = (hash % CHAINS) as usize;
+        let chain = chain_of(hash);
         let number = self.list.len() as u32;
         let next = self.firsts[chain];
         self.members.push(Member { hash, next })?;
