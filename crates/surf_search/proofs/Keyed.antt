@@ -1,5 +1,5 @@
 -- Keys of loops: what they tell, and what is noted of them.
-use Rattle.surf_search.proofs.Common.{◌≡◌, ◌≢◌, ◌⊎◌, ℕ, ◌<◌, ◌+◌, ◌++◌, ◌∷◌, [], true, not, ◌==◌, List, length, slice_index, bit_xor, get_or, set, sym, ap, ◌∙◌, subst, arith, inl, inr, nat_tests, and_parts, and_from, All, All-push, Option, Some, None, get_or-map, length-map, edge_count, ends, Candidate, Signed, signatures, place_of, is_sought, class_at, Search, reached_at, is_between, is_wanted, told_loop, HasNoLater, precedes}
+use Rattle.surf_search.proofs.Common.{◌≡◌, ◌≢◌, ◌⊎◌, ℕ, ◌<◌, ◌+◌, ◌++◌, ◌∷◌, [], true, not, ◌==◌, List, length, slice_index, bit_xor, get_or, set, sym, ap, ◌∙◌, subst, arith, inl, inr, nat_tests, and_parts, and_from, All, All-push, Option, Some, None, get_or-map, length-map, edge_count, Candidate, Signed, signatures, place_of, is_sought, class_at, Search, reached_at, is_between, is_wanted, told_loop, HasNoLater, precedes}
 use Rattle.std.specs.Int.Bits.{xor_assoc, xor_comm}
 use Rattle.std.proofs.lemmas.List.{map-set, set-get_or, map-append, get_or_append_left, length-append}
 use Rattle.std.proofs.Math.Seq.{get_or-append_seam}
