@@ -1,0 +1,11 @@
+pub mod Triangles
+pub mod Oddness
+pub mod Ways
+pub mod Bases
+pub mod TightWays
+pub mod PlacedWalks
+pub mod ChosenPlaces
+pub mod PlacedBases
+pub mod Coordinates
+pub mod DualCocycles
+pub mod PlacedCocycles

@@ -1,0 +1,3 @@
+pub mod Sheets
+pub mod Placed
+pub mod Laws
