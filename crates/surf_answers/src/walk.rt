@@ -1,6 +1,6 @@
 //! A shortest walk in the class of a walk.
 ghost use Rattle.std.specs.Prelude.{◌≡◌, ◌≤◌, ◌*◌, ◌^◌, length, IfOk};
-ghost use Rattle.surf_base.specs.declared.limits.TheConstants.{MAX_COVER_NODES};
+ghost use Rattle.surf_cover.specs.declared.limits.TheConstants.{MAX_LARGE_COVER_LOOPS, MAX_LARGE_COVER_NODES};
 ghost use Rattle.surf_surfaces.specs.Surface.{edge_count, loop_count};
 ghost use Rattle.surf_surfaces.specs.Walk.{IsClosed};
 ghost use Rattle.surf_cover.specs.Starts.{IsLeastInClass};
@@ -26,8 +26,8 @@ pub fn shortest_of(
     lengths: &Lengths,
     walk: &Walk,
 ) -> Result<Answered, Refused>
-    requires loops { loop_count mesh.now ≤ 8 }
-    requires nodes { mesh.now.vertices * 2 ^ loop_count mesh.now ≤ MAX_COVER_NODES }
+    requires loops { loop_count mesh.now ≤ MAX_LARGE_COVER_LOOPS }
+    requires nodes { mesh.now.vertices * 2 ^ loop_count mesh.now ≤ MAX_LARGE_COVER_NODES }
     requires lengths { length lengths.now ≡ edge_count mesh.now }
     requires closed { IsClosed mesh.now walk.now }
     ensures { Concludes (GivesShortestWalk mesh.now lengths.now walk.now) result }
@@ -45,8 +45,8 @@ fn found_walk(
     lengths: &Lengths,
     walk: &Walk,
 ) -> Result<ClassWalk, NoMemory>
-    requires loops { loop_count mesh.now ≤ 8 }
-    requires nodes { mesh.now.vertices * 2 ^ loop_count mesh.now ≤ MAX_COVER_NODES }
+    requires loops { loop_count mesh.now ≤ MAX_LARGE_COVER_LOOPS }
+    requires nodes { mesh.now.vertices * 2 ^ loop_count mesh.now ≤ MAX_LARGE_COVER_NODES }
     requires lengths { length lengths.now ≡ edge_count mesh.now }
     requires closed { IsClosed mesh.now walk.now }
     ensures { IfOk result (IsLeastInClass mesh.now lengths.now walk.now) }

@@ -130,7 +130,7 @@ module _ (mesh : Mesh) (d : Split) (sets : ℕ) (signs : List ℕ) (signed : IsS
       (subst (λ n. IsRow (cover_by mesh n (edge_signature mesh d)) (node_of n v set) (map (link_by mesh n (edge_signature mesh d) v set) items))
       (sym signed.sets_are) here)
 
-  pub searchable : IsSurface mesh → (lengths : List ℕ) → AreLengths lengths → mesh.vertices * sets ≤ 65536 →
+  pub searchable : IsSurface mesh → (lengths : List ℕ) → AreLengths lengths → mesh.vertices * sets ≤ 16777216 →
       IsSearchable (cover_by mesh sets (slice_index signs)) (length_by lengths sets)
   searchable surface lengths are few =
       let is = is_cover mesh d surface signed.split in

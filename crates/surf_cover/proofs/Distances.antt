@@ -126,7 +126,7 @@ module _ (mesh : Mesh) (lengths : List ℕ) (d : Split) (surface : IsSurface mes
 
 -- the same over the cover by a table of signatures
 pub signed_within : (mesh : Mesh) (lengths : List ℕ) (d : Split) (sets : ℕ) (signs : List ℕ) →
-    IsSignedBy mesh d sets signs → IsSurface mesh → ArePositive mesh lengths → mesh.vertices * sets ≤ 65536 →
+    IsSignedBy mesh d sets signs → IsSurface mesh → ArePositive mesh lengths → mesh.vertices * sets ≤ 16777216 →
     (x radius : ℕ) → x < mesh.vertices → (distance : ℕ → ℕ) →
     IsReachedWithin (cover_by mesh sets (slice_index signs)) (length_by lengths sets) (node_of sets x 0) radius distance →
     AreDistancesWithin mesh lengths d x radius (λ v set. distance (node_of sets v set))
@@ -137,7 +137,7 @@ signed_within mesh lengths d sets signs signed surface positive few x radius x_i
     let whole : IsReachedWithin (cover mesh d) (cover_length lengths d) (cover_node d x 0) radius distance =
     subst (λ n. IsReachedWithin (cover_by mesh n (edge_signature mesh d)) (length_by lengths n) (node_of n x 0) radius distance)
     signed.sets_are first in
-    let fewer : mesh.vertices * set_count d ≤ 65536 = subst (λ n. mesh.vertices * n ≤ 65536) signed.sets_are few in
+    let fewer : mesh.vertices * set_count d ≤ 16777216 = subst (λ n. mesh.vertices * n ≤ 16777216) signed.sets_are few in
     subst (λ n. AreDistancesWithin mesh lengths d x radius (λ v set. distance (node_of n v set))) (sym signed.sets_are)
     (distances_within mesh lengths d surface signed.split positive x radius x_in distance whole
     (λ u l settled.

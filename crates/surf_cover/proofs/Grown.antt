@@ -12,8 +12,8 @@ positive mesh lengths count are e l = (are e 0 (omega (arith, l, count))).positi
 
 module _ (mesh : Mesh) (t : CotreeTables) (signed : IsSigned mesh t) (sets : ℕ) (as_many : sets ≡ sets_of mesh) where
   -- signatures are small
-  pub sign_below : (v : ℕ) → v < mesh.vertices → mesh.vertices * sets ≤ 65536 → (e : ℕ) → e < edge_count mesh →
-      slice_index t.signatures e < 65536
+  pub sign_below : (v : ℕ) → v < mesh.vertices → mesh.vertices * sets ≤ 16777216 → (e : ℕ) → e < edge_count mesh →
+      slice_index t.signatures e < 16777216
   sign_below v v_in few e l =
       let tree = signed.grown.tree in
       let split = signed.grown.split in
@@ -33,7 +33,7 @@ module _ (mesh : Mesh) (t : CotreeTables) (signed : IsSigned mesh t) (sets : ℕ
       signs_are = λ e l. copied e (omega (arith, l, count)) ∙ sign_is mesh t signed tree split e l;
     }
 
-    pub coverable : IsSurface mesh → (lengths : List ℕ) → length lengths ≡ edge_count mesh → mesh.vertices * sets ≤ 65536 →
+    pub coverable : IsSurface mesh → (lengths : List ℕ) → length lengths ≡ edge_count mesh → mesh.vertices * sets ≤ 16777216 →
         IsCoverable mesh lengths sets signs
     coverable surface lengths measured few = record {
       surface = surface;
@@ -43,7 +43,7 @@ module _ (mesh : Mesh) (t : CotreeTables) (signed : IsSigned mesh t) (sets : ℕ
       few = few;
     }
 
-    pub grown : IsSurface mesh → mesh.vertices * sets ≤ 65536 → (lengths : List ℕ) → length lengths ≡ edge_count mesh → AreLengths lengths →
+    pub grown : IsSurface mesh → mesh.vertices * sets ≤ 16777216 → (lengths : List ℕ) → length lengths ≡ edge_count mesh → AreLengths lengths →
         (x : ℕ) → x < mesh.vertices → (vertices : ℕ) → vertices ≡ mesh.vertices → (distances settled_nodes : List ℕ) →
         IsSettled (cover_by mesh sets (slice_index signs)) (length_by lengths sets) (node_of sets x 0) (slice_index distances) →
         IsGrown mesh lengths t x
@@ -66,7 +66,7 @@ module _ (mesh : Mesh) (t : CotreeTables) (signed : IsSigned mesh t) (sets : ℕ
 
 -- a search as far as the greatest radius leaves no vertex with a set out
 pub reaches_all : (mesh : Mesh) (lengths : List ℕ) (sets : ℕ) (signs : List ℕ) → IsCoverable mesh lengths sets signs →
-    AreLengths lengths → (x radius : ℕ) → x < mesh.vertices → 65536 * longest ≤ radius → (distance : ℕ → ℕ) →
+    AreLengths lengths → (x radius : ℕ) → x < mesh.vertices → 16777216 * longest ≤ radius → (distance : ℕ → ℕ) →
     IsReachedWithin (cover_by mesh sets (slice_index signs)) (length_by lengths sets) (node_of sets x 0) radius distance →
     IsSettled (cover_by mesh sets (slice_index signs)) (length_by lengths sets) (node_of sets x 0) distance
     × ((u : ℕ) → u < mesh.vertices * sets → distance u ≢ far)
@@ -76,7 +76,7 @@ reaches_all mesh lengths sets signs can are x radius x_in large distance reached
     let some : 0 < sets = some_set mesh can.split sets signs can.signed in
     let fits : x * sets + sets ≤ mesh.vertices * sets = row_fits x sets mesh.vertices sets x_in (omega arith) in
     let base_in : node_of sets x 0 < mesh.vertices * sets = omega (arith, fits, some) in
-    let few : mesh.vertices * sets ≤ 65536 = can.few in
+    let few : mesh.vertices * sets ≤ 16777216 = can.few in
     let far_off : mesh.vertices * sets * longest ≤ radius = omega (arith, few, large) in (
       within_all g (length_by lengths sets) search (node_of sets x 0) radius base_in distance reached far_off,
       all_reached g (length_by lengths sets) search (node_of sets x 0) radius base_in distance reached far_off,

@@ -21,13 +21,13 @@ module _ (mesh : Mesh) (t : CotreeTables) (signed : IsSigned mesh t) where
       ap (λ (xs : List ℕ). length xs) (signed.signatures signed.grown.tree signed.grown.split)
       ∙ length-map-range_with_len (edge_signature mesh (split_with signed.grown.tree t)) 0 (edge_count mesh)
 
-  pub sign_small : loop_count mesh ≤ 8 → (e : ℕ) → e < edge_count mesh → slice_index t.signatures e < 256
+  pub sign_small : loop_count mesh ≤ 16 → (e : ℕ) → e < edge_count mesh → slice_index t.signatures e < 65536
   sign_small few e l =
       let tree = signed.grown.tree in
       let split = signed.grown.split in
       let below : edge_signature mesh (split_with tree t) e < set_count (split_with tree t) = edge_set mesh (split_with tree t) e in
       let same = sets_are tree split in
-      let most : sets_of mesh ≤ 2 ^ 8 = pow-le-pow_right {n = 2} (omega arith) few in
+      let most : sets_of mesh ≤ 2 ^ 16 = pow-le-pow_right {n = 2} (omega arith) few in
       let is = sign_is tree split e l in
       omega (arith, below, same, most, is)
 

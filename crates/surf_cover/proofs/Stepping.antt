@@ -73,7 +73,7 @@ pub record IsStep (mesh : Mesh) (lengths : List ℕ) (d : Split) (sets : ℕ) (d
 module _ (mesh : Mesh) (lengths : List ℕ) (d : Split) (surface : IsSurface mesh) (split : IsSplit (cells_of mesh) d)
     (positive : ArePositive mesh lengths) (dist : ℕ → ℕ) (x v set u e : ℕ) (v_in : v < mesh.vertices)
     (away : v ≡ x → set ≡ 0 → ⊥) where
-  step_here : IsSet d set → mesh.vertices * set_count d ≤ 65536 →
+  step_here : IsSet d set → mesh.vertices * set_count d ≤ 16777216 →
       IsCertified mesh lengths d x (λ y s. dist (cover_node d y s)) →
       IsLeastTightIn (cover mesh d) (cover_length lengths d) dist (cover_node d v set) u e →
       IsStep mesh lengths d (set_count d) dist v set u
@@ -107,12 +107,12 @@ module _ (mesh : Mesh) (lengths : List ℕ) (d : Split) (surface : IsSurface mes
       }
 
   -- a least tight link of a search is a step back
-  pub step_by : (sets : ℕ) (signs : List ℕ) → IsSignedBy mesh d sets signs → set < sets → mesh.vertices * sets ≤ 65536 →
+  pub step_by : (sets : ℕ) (signs : List ℕ) → IsSignedBy mesh d sets signs → set < sets → mesh.vertices * sets ≤ 16777216 →
       IsCertified mesh lengths d x (λ y s. dist (node_of sets y s)) →
       IsLeastTightIn (cover_by mesh sets (slice_index signs)) (length_by lengths sets) dist (node_of sets v set) u e →
       IsStep mesh lengths d sets dist v set u
   step_by sets signs signed set_in few certified h =
-      let Q : ℕ → Type 0 = λ n. set < n → mesh.vertices * n ≤ 65536 → IsCertified mesh lengths d x (λ y s. dist (node_of n y s)) →
+      let Q : ℕ → Type 0 = λ n. set < n → mesh.vertices * n ≤ 16777216 → IsCertified mesh lengths d x (λ y s. dist (node_of n y s)) →
       IsLeastTightIn (cover_by mesh n (edge_signature mesh d)) (length_by lengths n) dist (node_of n v set) u e →
       IsStep mesh lengths d n dist v set u in
       let here : Q sets = subst Q (sym signed.sets_are) step_here in
@@ -122,7 +122,7 @@ module _ (mesh : Mesh) (lengths : List ℕ) (d : Split) (surface : IsSurface mes
 
 -- the same by the number of the node
 pub step_at : (mesh : Mesh) (lengths : List ℕ) (sets : ℕ) (signs distances : List ℕ) (base : ℕ) → IsSurface mesh → ArePositive mesh lengths →
-    mesh.vertices * sets ≤ 65536 → (node u e : ℕ) → node < mesh.vertices * sets → node ≢ base * sets →
+    mesh.vertices * sets ≤ 16777216 → (node u e : ℕ) → node < mesh.vertices * sets → node ≢ base * sets →
     IsLeastTightIn (cover_by mesh sets (slice_index signs)) (length_by lengths sets) (slice_index distances) node u e →
     (d : Split) → IsCertifiedBy mesh lengths d sets signs distances base →
     IsStep mesh lengths d sets (slice_index distances) (node / sets) (node % sets) u × (slice_index distances u < slice_index distances node)

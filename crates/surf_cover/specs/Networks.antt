@@ -67,4 +67,4 @@ pub record IsCoverable (mesh : Mesh) (lengths : List ℕ) (sets : ℕ) (signs : 
   pub split : Split
   pub signed : IsSignedBy mesh split sets signs
   pub measured : length lengths ≡ edge_count mesh
-  pub few : mesh.vertices * sets ≤ 65536
+  pub few : mesh.vertices * sets ≤ 16777216

@@ -23,8 +23,8 @@ sets_of mesh = 2 ^ loop_count mesh
 
 -- the mesh has few loops, and few vertices with sets
 pub record IsSmall (mesh : Mesh) : Type 0 where
-  pub loops : loop_count mesh ≤ 8
-  pub nodes : mesh.vertices * sets_of mesh ≤ 65536
+  pub loops : loop_count mesh ≤ 16
+  pub nodes : mesh.vertices * sets_of mesh ≤ 16777216
 
 -- there is an entry for each edge, and for each vertex with each set
 pub record AreCoverTables (mesh : Mesh) (t : CoverTables) : Type 0 where

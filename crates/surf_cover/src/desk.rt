@@ -1,6 +1,6 @@
 //! The distances over the cover from one base.
 ghost use Rattle.std.specs.Prelude.{◌≡◌, ◌<◌, ◌≤◌, ◌*◌, ℕ, length, slice_index, IfOk};
-ghost use Rattle.surf_base.specs.declared.limits.TheConstants.{MAX_COVER_NODES};
+ghost use Rattle.surf_cover.specs.declared.limits.TheConstants.{MAX_LARGE_COVER_NODES};
 ghost use Rattle.surf_graphs.specs.Cells.{Split};
 ghost use Rattle.surf_surfaces.specs.Surface.{edge_count};
 ghost use Rattle.surf_cover.specs.Networks.{IsCertifiedBy, IsCoverable, IsReadOff};
@@ -48,8 +48,8 @@ impl Model for CoverDesk {
 }
 
 impl CoverDesk {
-    /// A desk for the cover of a mesh with at most 8 loops, two less the characteristic, and at
-    /// most 65,536 vertices with sets of left edges. No later call takes memory.
+    /// A desk for the cover of a mesh with at most 16 loops, two less the characteristic, and at
+    /// most 16,777,216 vertices with sets of left edges. No later call takes memory.
     pub fn make(alloc: Global, mesh: &HalfMesh) -> Result<CoverDesk, NoMemory>
         requires small { IsSmall mesh.now }
         ensures made { IfOk result (λ desk. AreCoverTables mesh.now desk) }
@@ -91,7 +91,7 @@ impl CoverDesk {
         requires made { AreCoverTables mesh.now self.old }
         requires signed { IsSigned mesh.now cotree.now }
         ensures made { AreCoverTables mesh.now self.new }
-        ensures few { mesh.now.vertices * self.new.sets ≤ MAX_COVER_NODES }
+        ensures few { mesh.now.vertices * self.new.sets ≤ MAX_LARGE_COVER_NODES }
         ensures signs { (e : ℕ) → e < edge_count mesh.now →
             slice_index self.new.signs e ≡ slice_index cotree.now.signatures e }
     {

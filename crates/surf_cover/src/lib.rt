@@ -17,11 +17,12 @@
 //! go no farther than the best length so far, since what is farther is on no walk that is as short.
 //!
 //! The nodes are two to the power of the number of left edges times the vertices, so there may be
-//! at most 8 left edges and 65,536 nodes.
+//! at most 16 left edges and 16,777,216 nodes.
 #![tactic(auto)]
 
 mod choice;
 mod desk;
+mod limits;
 mod network;
 mod reading;
 mod rounds;
@@ -30,3 +31,4 @@ mod signs;
 
 pub use choice::{ClassWalk, least_in_class};
 pub use desk::CoverDesk;
+pub use limits::{MAX_LARGE_COVER_LOOPS, MAX_LARGE_COVER_NODES};

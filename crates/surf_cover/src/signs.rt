@@ -17,7 +17,7 @@ use surf_mesh::HalfMesh;
 
 /// How many sets of left edges there are.
 pub(crate) fn count_sets(mesh: &HalfMesh) -> u32
-    requires few { loop_count mesh.now ≤ 8 }
+    requires few { loop_count mesh.now ≤ 16 }
     ensures sets { result ≡ sets_of mesh.now }
 {
     let edges = mesh.edges() as usize;
@@ -63,7 +63,7 @@ fn edge_between(mesh: &HalfMesh, u: VertexId, v: VertexId) -> EdgeId
 
 /// The sum of the signatures of a walk's steps.
 pub(crate) fn walk_sign(mesh: &HalfMesh, cotree: &CotreeDesk, walk: &[VertexId]) -> u32
-    requires small { loop_count mesh.now ≤ 8 }
+    requires small { loop_count mesh.now ≤ 16 }
     requires signed { IsSigned mesh.now cotree.now }
     requires walk { IsWalk mesh.now walk.now }
     ensures sum { (tree : Tree) → IsSplit (cells_of mesh.now) (split_with tree cotree.now) →

@@ -1,6 +1,9 @@
 -- What comes of each row of the command table: one outcome, which depends on the files alone that the row names.
 use Rattle.surf_answers.proofs.Common.{◌++◌, ◌∷◌, ℕ, List, [], Option, Some, None, refl, edge_count, AllByRecursion, geom_cause, soup_text, refused_by, cut_text, lengths_positive}
 use Rattle.surf_run.proofs.Common.{Files, mesh_of, made_values, cert_cause, copy_cause, sew_cause, First, Second, OnRequest, named, point_file, length_file, Request, help, version, info, dist, loops, basis, cycle, cut, sew, disc, class, same, confirm, shortest, certify_loops, certify_basis, check, lengths, gen_shape, try_shape}
+use Rattle.surf_words.specs.Words.{large_basis, large_cycle, large_shortest}
+use Rattle.surf_answers.specs.ShortestWalk.{GivesShortestWalk}
+use Rattle.surf_run.specs.Fronts.{OnCovered}
 use Rattle.surf_geom.specs.Measures.{measures_in}
 use Rattle.surf_geom.specs.Texts.{lengths_text}
 use Rattle.surf_cert.specs.Grammar.{parsed_cert}
@@ -20,6 +23,18 @@ parted P [] ys all = (tt, all)
 parted P (x ∷ xs) ys all = let (first, second) = parted P xs ys all.1 in ((all.0, first), second)
 
 module _ (here there : Files) where
+  -- a walk that is sought within limits on the cover
+  covered_is_settled : (most_loops most_nodes : ℕ) (mesh word walk : List ℕ) →
+      AllByRecursion (Same here there) (named (Some (shortest mesh word walk))) →
+      IsSettled (OnCovered most_loops most_nodes mesh word walk here (λ read. GivesShortestWalk read.1))
+      (OnCovered most_loops most_nodes mesh word walk there (λ read. GivesShortestWalk read.1))
+  covered_is_settled most_loops most_nodes mesh word walk agree =
+      of_surface here there mesh agree.0 (λ read is.
+      within limits.Loops _ _ (within limits.CoverLoops _ _ (within limits.CoverNodes _ _
+      (followed (has_lengths here there word read.1 agree.1.1) (λ values given.
+      followed (walked here there First walk read.1 agree.1.0) (λ closed has.
+      settled (one_shortest read.1 values closed is (lengths_positive read.1 values given.1 given.2) has.1)))))))
+
   pub rows_are_settled : (r : Option Request) → AllByRecursion (Same here there) (named r) → IsWellShaped r →
       IsSettled (OnRequest r here) (OnRequest r there)
   rows_are_settled None agree shaped = settled (one_outcome _)
@@ -45,6 +60,14 @@ module _ (here there : Files) where
       of_surface here there mesh agree.0 (λ read is. within limits.Loops _ _ (within limits.BasisVertices _ _
       (followed (has_lengths here there word read.1 agree.1) (λ values given.
       settled (one_cycle read.1 values is (lengths_positive read.1 values given.1 given.2))))))
+  rows_are_settled (Some (large_basis mesh word)) agree shaped =
+      of_surface here there mesh agree.0 (λ read is. within limits.Loops _ _
+      (followed (has_lengths here there word read.1 agree.1) (λ values given.
+      settled (one_basis read.1 values is (lengths_positive read.1 values given.1 given.2)))))
+  rows_are_settled (Some (large_cycle mesh word)) agree shaped =
+      of_surface here there mesh agree.0 (λ read is. within limits.Loops _ _
+      (followed (has_lengths here there word read.1 agree.1) (λ values given.
+      settled (one_cycle read.1 values is (lengths_positive read.1 values given.1 given.2)))))
   rows_are_settled (Some (cut extent mesh word base)) agree shaped =
       let (points, of_word) = parted (Same here there) (point_file extent) (length_file word) agree.1 in
       of_surface here there mesh agree.0 (λ read is. within limits.Loops _ _
@@ -76,12 +99,8 @@ module _ (here there : Files) where
       followed (reading here there cert agree.1.1.0) (λ text _.
       followed (steady (one_evidence_text text)) (λ evidence _.
       settled (one_judged_evidence read.1 closed evidence)))))
-  rows_are_settled (Some (shortest mesh word walk)) agree shaped =
-      of_surface here there mesh agree.0 (λ read is.
-      within limits.Loops _ _ (within limits.CoverLoops _ _ (within limits.CoverNodes _ _
-      (followed (has_lengths here there word read.1 agree.1.1) (λ values given.
-      followed (walked here there First walk read.1 agree.1.0) (λ closed has.
-      settled (one_shortest read.1 values closed is (lengths_positive read.1 values given.1 given.2) has.1)))))))
+  rows_are_settled (Some (shortest mesh word walk)) agree shaped = covered_is_settled _ _ mesh word walk agree
+  rows_are_settled (Some (large_shortest mesh word walk)) agree shaped = covered_is_settled _ _ mesh word walk agree
   rows_are_settled (Some (certify_loops mesh word base)) agree shaped =
       of_surface here there mesh agree.0 (λ read is. within limits.Loops _ _
       (followed (has_lengths here there word read.1 agree.1) (λ values given.

@@ -1,13 +1,14 @@
 -- The commands: what comes of each over named files, and which files it names.
-use Rattle.std.specs.Prelude.{◌≡◌, ◌*◌, ◌^◌, ℕ, List, [], ◌∷◌, ◌++◌, Option, Some, None, if◌then◌else◌, codes}
+use Rattle.std.specs.Prelude.{◌≡◌, ℕ, List, [], ◌∷◌, ◌++◌, Option, Some, None, if◌then◌else◌, codes}
 use Rattle.std.specs.Str.{bytes_eq}
 use Rattle.surf_base.specs.Outside.{Files}
 use Rattle.surf_base.specs.declared.limits.LimitKind.TheVariants.{Loops, BasisVertices}
-use Rattle.surf_base.specs.declared.limits.LimitKind.TheVariants.{CertificateVertices, CoverLoops, CoverNodes}
+use Rattle.surf_base.specs.declared.limits.LimitKind.TheVariants.{CertificateVertices}
 use Rattle.surf_gen.specs.Made.{made_values}
 use Rattle.surf_surfaces.specs.Surface.{loop_count}
 use Rattle.surf_words.specs.Shapes.{mesh_of}
 use Rattle.surf_words.specs.Words.{Request, help, version, info, dist, loops, basis, cycle, cut, sew, disc, class, same}
+use Rattle.surf_words.specs.Words.{large_basis, large_cycle, large_shortest}
 use Rattle.surf_words.specs.Words.{confirm, shortest, certify_loops, certify_basis, check, lengths, gen_shape, try_shape}
 use Rattle.surf_words.specs.Words.{Extent, fully, trimmed, through, help_text, version_text}
 use Rattle.surf_texts.specs.Cause.{misused}
@@ -28,7 +29,7 @@ use Rattle.surf_answers.specs.ShortestCycle.{GivesCycle}
 use Rattle.surf_answers.specs.Summaries.{GivesSummary}
 use Rattle.surf_answers.specs.ShortestWalk.{GivesShortestWalk}
 use Rattle.surf_answers.specs.Verdicts.{JudgesCert}
-use Rattle.surf_run.specs.Fronts.{OnText, OnSurface, OnFewLoops, OnMeasured, OnBased, OnSmall, OnMesh}
+use Rattle.surf_run.specs.Fronts.{OnText, OnSurface, OnFewLoops, OnMeasured, OnBased, OnSmall, OnCovered, OnMesh}
 use Rattle.surf_run.specs.Reading.{Reads, HasLengths, HasBase, HasWalk, IsCertText}
 use Rattle.surf_run.specs.Reading.{tree_count, HasKind, IsEvidenceText}
 use Rattle.surf_run.specs.Sewing.{HasOrigins, IsSewn, OnSewnMesh}
@@ -47,6 +48,8 @@ OnRequest (Some (dist mesh word base)) files = OnSurface mesh files (λ read. do
 OnRequest (Some (loops mesh word base)) files = OnBased mesh word base files (λ read. GivesLoops read.1)
 OnRequest (Some (basis mesh word)) files = OnSmall BasisVertices 20000 mesh word files (λ read. GivesBasis read.1)
 OnRequest (Some (cycle mesh word)) files = OnSmall BasisVertices 20000 mesh word files (λ read. GivesCycle read.1)
+OnRequest (Some (large_basis mesh word)) files = OnMeasured mesh word files (λ read. GivesBasis read.1)
+OnRequest (Some (large_cycle mesh word)) files = OnMeasured mesh word files (λ read. GivesCycle read.1)
 OnRequest (Some (cut extent mesh word base)) files = OnBased mesh word base files (λ read values vertex. do
   kind ← HasKind extent read.1 files
   opened ← CutsAt kind read.1 values vertex
@@ -68,12 +71,9 @@ OnRequest (Some (confirm mesh walk cert)) files = OnSurface mesh files (λ read.
   text ← Reads cert files
   evidence ← IsEvidenceText text
   JudgesEvidence read.1 closed evidence)
-OnRequest (Some (shortest mesh word walk)) files = OnFewLoops mesh files (λ read. do
-  AtMost CoverLoops 8 (loop_count read.1)
-  AtMost CoverNodes 65536 (read.1.vertices * 2 ^ loop_count read.1)
-  values ← HasLengths word read.1 files
-  closed ← HasWalk First walk read.1 files
-  GivesShortestWalk read.1 values closed)
+OnRequest (Some (shortest mesh word walk)) files = OnCovered 8 65536 mesh word walk files (λ read. GivesShortestWalk read.1)
+OnRequest (Some (large_shortest mesh word walk)) files =
+    OnCovered 16 16777216 mesh word walk files (λ read. GivesShortestWalk read.1)
 OnRequest (Some (certify_loops mesh word base)) files = OnBased mesh word base files (λ read. GivesLoopCert read.1)
 OnRequest (Some (certify_basis mesh word)) files =
     OnSmall CertificateVertices 1000 mesh word files (λ read. GivesBasisCert read.1)
@@ -108,6 +108,8 @@ named (Some (dist mesh word base)) = mesh ∷ length_file word
 named (Some (loops mesh word base)) = mesh ∷ length_file word
 named (Some (basis mesh word)) = mesh ∷ length_file word
 named (Some (cycle mesh word)) = mesh ∷ length_file word
+named (Some (large_basis mesh word)) = mesh ∷ length_file word
+named (Some (large_cycle mesh word)) = mesh ∷ length_file word
 named (Some (cut extent mesh word base)) = mesh ∷ point_file extent ++ length_file word
 named (Some (sew mesh)) = mesh ∷ []
 named (Some (disc mesh)) = mesh ∷ []
@@ -115,6 +117,7 @@ named (Some (class mesh walk)) = mesh ∷ walk ∷ []
 named (Some (same mesh first second)) = mesh ∷ first ∷ second ∷ []
 named (Some (confirm mesh walk cert)) = mesh ∷ walk ∷ cert ∷ []
 named (Some (shortest mesh word walk)) = mesh ∷ walk ∷ length_file word
+named (Some (large_shortest mesh word walk)) = mesh ∷ walk ∷ length_file word
 named (Some (certify_loops mesh word base)) = mesh ∷ length_file word
 named (Some (certify_basis mesh word)) = mesh ∷ length_file word
 named (Some (check mesh word cert)) = mesh ∷ cert ∷ length_file word

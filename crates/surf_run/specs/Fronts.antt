@@ -1,13 +1,14 @@
 -- Fronts that rows share, and what comes behind them.
-use Rattle.std.specs.Prelude.{ℕ, List, Result, Ok, Err}
+use Rattle.std.specs.Prelude.{ℕ, ◌*◌, ◌^◌, List, Result, Ok, Err}
 use Rattle.surf_base.specs.Outside.{Files}
 use Rattle.surf_base.specs.declared.limits.LimitKind.{LimitKind}
-use Rattle.surf_base.specs.declared.limits.LimitKind.TheVariants.{Vertices, Faces, Loops}
+use Rattle.surf_base.specs.declared.limits.LimitKind.TheVariants.{Vertices, Faces, Loops, CoverLoops, CoverNodes}
 use Rattle.surf_surfaces.specs.Mesh.{Mesh}
 use Rattle.surf_surfaces.specs.Surface.{face_count, loop_count}
 use Rattle.surf_off.specs.Off.{OffParts}
 use Rattle.surf_texts.specs.Outcome.{Outcome}
-use Rattle.surf_run.specs.Reading.{Reads, IsMeshText, IsSurfaceText, HasLengths, HasBase}
+use Rattle.surf_texts.specs.declared.walks.WalkFile.TheVariants.{First}
+use Rattle.surf_run.specs.Reading.{Reads, IsMeshText, IsSurfaceText, HasLengths, HasBase, HasWalk}
 use Rattle.surf_run.specs.Steps.{AtMost, ◌>>=◌, ◌>>◌}
 
 -- the text of a mesh in the file of a name
@@ -39,6 +40,17 @@ OnSmall kind most mesh word files rest = OnFewLoops mesh files (λ read. do
   AtMost kind most read.1.vertices
   values ← HasLengths word read.1 files
   rest read values)
+
+-- a surface with at most 1,024 loops and a small cover, by a limit on its loops and one on its vertices with sets of
+-- loops, to which a word gives lengths, and a closed walk on it
+abbrev pub OnCovered : ℕ → ℕ → List ℕ → List ℕ → List ℕ → Files →
+    (OffParts × Mesh → List ℕ → List ℕ → Outcome → Type 0) → Outcome → Type 0
+OnCovered loops nodes mesh word walk files rest = OnFewLoops mesh files (λ read. do
+  AtMost CoverLoops loops (loop_count read.1)
+  AtMost CoverNodes nodes (read.1.vertices * 2 ^ loop_count read.1)
+  values ← HasLengths word read.1 files
+  closed ← HasWalk First walk read.1 files
+  rest read values closed)
 
 -- a mesh that is made, with at most 1,000,000 vertices and 2,000,000 faces
 abbrev pub OnMesh : Mesh → (Outcome → Type 0) → Outcome → Type 0

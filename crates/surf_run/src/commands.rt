@@ -62,6 +62,8 @@ pub(crate) fn answer<S: Shelf>(
         } => loops::answer(alloc, shelf, mesh, lengths, base),
         Command::Basis { mesh, lengths } => basis::answer(alloc, shelf, mesh, lengths),
         Command::Cycle { mesh, lengths } => cycle::answer(alloc, shelf, mesh, lengths),
+        Command::LargeBasis { mesh, lengths } => basis::answer_large(alloc, shelf, mesh, lengths),
+        Command::LargeCycle { mesh, lengths } => cycle::answer_large(alloc, shelf, mesh, lengths),
         Command::CutFull {
             mesh,
             lengths,
@@ -95,6 +97,11 @@ pub(crate) fn answer<S: Shelf>(
             lengths,
             walk,
         } => shortest::answer(alloc, shelf, mesh, lengths, walk),
+        Command::LargeShortest {
+            mesh,
+            lengths,
+            walk,
+        } => shortest::answer_large(alloc, shelf, mesh, lengths, walk),
         Command::CertifyLoops {
             mesh,
             lengths,

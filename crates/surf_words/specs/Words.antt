@@ -14,6 +14,7 @@ use Rattle.surf_words.specs.declared.words.Command.TheVariants.{Help, Version, I
 use Rattle.surf_words.specs.declared.words.Command.TheVariants.{CutFull, CutTrimmed, CutThrough, Sew, Disc, Class, Same}
 use Rattle.surf_words.specs.declared.words.Command.TheVariants.{Confirm, Shortest, CertifyLoops, CertifyBasis, Check}
 use Rattle.surf_words.specs.declared.words.Command.TheVariants.{Lengths, Gen, Try}
+use Rattle.surf_words.specs.declared.words.Command.TheVariants.{LargeBasis, LargeCycle, LargeShortest}
 use Rattle.std.specs.declared.alloc.Global.{Global}
 
 -- the bytes of each word
@@ -35,6 +36,8 @@ pub data Request : Type 0 where
   loops : List ℕ → List ℕ → ℕ → Request
   basis : List ℕ → List ℕ → Request
   cycle : List ℕ → List ℕ → Request
+  large_basis : List ℕ → List ℕ → Request
+  large_cycle : List ℕ → List ℕ → Request
   cut : Extent → List ℕ → List ℕ → ℕ → Request
   sew : List ℕ → Request
   disc : List ℕ → Request
@@ -42,6 +45,7 @@ pub data Request : Type 0 where
   same : List ℕ → List ℕ → List ℕ → Request
   confirm : List ℕ → List ℕ → List ℕ → Request
   shortest : List ℕ → List ℕ → List ℕ → Request
+  large_shortest : List ℕ → List ℕ → List ℕ → Request
   certify_loops : List ℕ → List ℕ → ℕ → Request
   certify_basis : List ℕ → List ℕ → Request
   check : List ℕ → List ℕ → List ℕ → Request
@@ -89,6 +93,8 @@ command_table =
     ∷ row "loops M L x" "a shortest system of independent loops at x" (at_base loops)
     ∷ row "basis M L" "a shortest homology basis (mod 2)" (with_lengths basis)
     ∷ row "cycle M L" "a shortest cycle that doesn't separate the surface" (with_lengths cycle)
+    ∷ row "basis M L large" "the same as basis M L on a mesh of any size" (with_lengths large_basis)
+    ∷ row "cycle M L large" "the same as cycle M L on a mesh of any size" (with_lengths large_cycle)
     ∷ row "cut M L x full" "the mesh cut into one disc" (at_base (cut fully))
     ∷ row "cut M L x trim" "the same with the cut's loose ends left uncut" (at_base (cut trimmed))
     ∷ row "cut M L x through P" "the mesh cut into one disc through the vertices of P"
@@ -101,6 +107,8 @@ command_table =
     (λ w. Some (confirm (w "M") (w "W") (w "C")))
     ∷ row "shortest M L W" "a shortest closed walk homologous to W"
     (λ w. Some (shortest (w "M") (w "L") (w "W")))
+    ∷ row "shortest M L W large" "the same as shortest M L W on larger meshes"
+    (λ w. Some (large_shortest (w "M") (w "L") (w "W")))
     ∷ row "certify M L x" "a certificate of loops at vertex x" (at_base certify_loops)
     ∷ row "certify M L" "a certificate of a basis" (with_lengths certify_basis)
     ∷ row "check M L C" "whether a certificate is valid, and its total" (λ w. Some (check (w "M") (w "L") (w "C")))
@@ -152,6 +160,8 @@ request (Dist mesh word base) = dist mesh.now word.now base
 request (Loops mesh word base) = loops mesh.now word.now base
 request (Basis mesh word) = basis mesh.now word.now
 request (Cycle mesh word) = cycle mesh.now word.now
+request (LargeBasis mesh word) = large_basis mesh.now word.now
+request (LargeCycle mesh word) = large_cycle mesh.now word.now
 request (CutFull mesh word base) = cut fully mesh.now word.now base
 request (CutTrimmed mesh word base) = cut trimmed mesh.now word.now base
 request (CutThrough mesh word base points) = cut (through points.now) mesh.now word.now base
@@ -161,6 +171,7 @@ request (Class mesh walk) = class mesh.now walk.now
 request (Same mesh first second) = same mesh.now first.now second.now
 request (Confirm mesh walk cert) = confirm mesh.now walk.now cert.now
 request (Shortest mesh word walk) = shortest mesh.now word.now walk.now
+request (LargeShortest mesh word walk) = large_shortest mesh.now word.now walk.now
 request (CertifyLoops mesh word base) = certify_loops mesh.now word.now base
 request (CertifyBasis mesh word) = certify_basis mesh.now word.now
 request (Check mesh word cert) = check mesh.now word.now cert.now
@@ -184,7 +195,7 @@ version_text = codes "surf 1.0.0\n"
 -- the line of a row in the help, and the blanks before the next
 abbrev pub usage_line : Row → List ℕ
 usage_line (row call effect asked) =
-    codes "surf " ++ codes call ++ repeat (21 - length (codes call)) (codes " ") ++ codes effect ++ codes "\n       "
+    codes "surf " ++ codes call ++ repeat (22 - length (codes call)) (codes " ") ++ codes effect ++ codes "\n       "
 
 -- how the program is called, line by line
 abbrev pub help_text : List ℕ
@@ -206,6 +217,7 @@ help_text =
     ++ codes "        8 certificate or evidence text, 9 file, 10 output, 11 memory, 12 coordinates,\n"
     ++ codes "        13 walk, 14 copies, 15 vertices; from 2 on with a line on standard error\n"
     ++ codes "limits: 1000000 vertices, 2000000 faces, 1024 loops; 20000 vertices for basis and cycle,\n"
-    ++ codes "        1000 for certify M L; 8 loops for shortest, and 65536 vertices times 2^loops\n"
+    ++ codes "        1000 for certify M L; 8 loops for shortest, and 65536 vertices times 2^loops,\n"
+    ++ codes "        or 16 and 16777216 with large\n"
     ++ codes "example: surf lengths eight.off 6 > eight.len; surf basis eight.off eight.len\n"
     ++ codes "manual: docs/guide.md of the repository\n"

@@ -35,6 +35,14 @@ pub enum Command<'w> {
         mesh: &'w str,
         lengths: &'w str,
     },
+    LargeBasis {
+        mesh: &'w str,
+        lengths: &'w str,
+    },
+    LargeCycle {
+        mesh: &'w str,
+        lengths: &'w str,
+    },
     CutFull {
         mesh: &'w str,
         lengths: &'w str,
@@ -76,6 +84,11 @@ pub enum Command<'w> {
         lengths: &'w str,
         walk: &'w str,
     },
+    LargeShortest {
+        mesh: &'w str,
+        lengths: &'w str,
+        walk: &'w str,
+    },
     CertifyLoops {
         mesh: &'w str,
         lengths: &'w str,
@@ -106,28 +119,31 @@ pub enum Command<'w> {
 /// How the program is called, line by line.
 pub const HELP: &str = "surf: shortest loops, least bases and cuts of closed surface meshes
 
-usage: surf info M               counts, Euler characteristic, genus or crosscaps
-       surf dist M L x           the distance of each vertex from vertex x
-       surf loops M L x          a shortest system of independent loops at x
-       surf basis M L            a shortest homology basis (mod 2)
-       surf cycle M L            a shortest cycle that doesn't separate the surface
-       surf cut M L x full       the mesh cut into one disc
-       surf cut M L x trim       the same with the cut's loose ends left uncut
-       surf cut M L x through P  the mesh cut into one disc through the vertices of P
-       surf sew M                the mesh that was cut, from what cut wrote
-       surf disc M               whether a mesh is a disc
-       surf class M W            whether a closed walk is a boundary, with evidence
-       surf same M W W2          whether two closed walks are homologous (mod 2)
-       surf confirm M W C        whether the evidence that class wrote is right
-       surf shortest M L W       a shortest closed walk homologous to W
-       surf certify M L x        a certificate of loops at vertex x
-       surf certify M L          a certificate of a basis
-       surf check M L C          whether a certificate is valid, and its total
-       surf lengths M k          the lengths of the edges from coordinates, in units of 10^-k
-       surf gen torus a b        a torus of a by b squares
-       surf gen chain g a b      a chain of g such tori
-       surf try torus a b s      a summary of a torus with lengths scattered by s
-       surf try chain g a b s    the same of a chain
+usage: surf info M                counts, Euler characteristic, genus or crosscaps
+       surf dist M L x            the distance of each vertex from vertex x
+       surf loops M L x           a shortest system of independent loops at x
+       surf basis M L             a shortest homology basis (mod 2)
+       surf cycle M L             a shortest cycle that doesn't separate the surface
+       surf basis M L large       the same as basis M L on a mesh of any size
+       surf cycle M L large       the same as cycle M L on a mesh of any size
+       surf cut M L x full        the mesh cut into one disc
+       surf cut M L x trim        the same with the cut's loose ends left uncut
+       surf cut M L x through P   the mesh cut into one disc through the vertices of P
+       surf sew M                 the mesh that was cut, from what cut wrote
+       surf disc M                whether a mesh is a disc
+       surf class M W             whether a closed walk is a boundary, with evidence
+       surf same M W W2           whether two closed walks are homologous (mod 2)
+       surf confirm M W C         whether the evidence that class wrote is right
+       surf shortest M L W        a shortest closed walk homologous to W
+       surf shortest M L W large  the same as shortest M L W on larger meshes
+       surf certify M L x         a certificate of loops at vertex x
+       surf certify M L           a certificate of a basis
+       surf check M L C           whether a certificate is valid, and its total
+       surf lengths M k           the lengths of the edges from coordinates, in units of 10^-k
+       surf gen torus a b         a torus of a by b squares
+       surf gen chain g a b       a chain of g such tori
+       surf try torus a b s       a summary of a torus with lengths scattered by s
+       surf try chain g a b s     the same of a chain
        surf --help | --version
 
 files: M  a mesh in OFF, one vertex or face a line
@@ -141,7 +157,8 @@ status: 0 done, 1 no, 2 words, 3 mesh text, 4 no surface, 5 lengths, 6 limit, 7 
         8 certificate or evidence text, 9 file, 10 output, 11 memory, 12 coordinates,
         13 walk, 14 copies, 15 vertices; from 2 on with a line on standard error
 limits: 1000000 vertices, 2000000 faces, 1024 loops; 20000 vertices for basis and cycle,
-        1000 for certify M L; 8 loops for shortest, and 65536 vertices times 2^loops
+        1000 for certify M L; 8 loops for shortest, and 65536 vertices times 2^loops,
+        or 16 and 16777216 with large
 example: surf lengths eight.off 6 > eight.len; surf basis eight.off eight.len
 manual: docs/guide.md of the repository
 ";
@@ -344,6 +361,24 @@ fn on_four<'w>(word: &str, second: &'w str, third: &'w str, fourth: &'w str) -> 
             lengths: third,
             cert: fourth,
         }),
+        "basis" => {
+            if fourth != "large" {
+                return None;
+            }
+            Some(Command::LargeBasis {
+                mesh: second,
+                lengths: third,
+            })
+        }
+        "cycle" => {
+            if fourth != "large" {
+                return None;
+            }
+            Some(Command::LargeCycle {
+                mesh: second,
+                lengths: third,
+            })
+        }
         "gen" => {
             if second != "torus" {
                 return None;
@@ -359,11 +394,18 @@ fn on_five<'w>(
     word: &str,
     second: &'w str,
     third: &'w str,
-    fourth: &str,
+    fourth: &'w str,
     fifth: &str,
 ) -> Option<Command<'w>>
     ensures { Asks result (word.now ∷ second.now ∷ third.now ∷ fourth.now ∷ fifth.now ∷ []) }
 {
+    if word == "shortest" && fifth == "large" {
+        return Some(Command::LargeShortest {
+            mesh: second,
+            lengths: third,
+            walk: fourth,
+        });
+    }
     if word == "cut" {
         return match fifth {
             "full" => cut_full(second, third, fourth),

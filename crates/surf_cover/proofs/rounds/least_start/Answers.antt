@@ -61,8 +61,8 @@ loop-v-preserved c =
           λ e l. ap (λ (xs : List ℕ). slice_index xs e) b.grow_within.ensures.signs ∙ so_far.signs e l in
           let copied : (e : ℕ) → e < length desk.signs → slice_index desk.signs e ≡ slice_index t.signatures e =
           λ e l. signs e (omega (arith, l, made.signs)) in
-          let few : mesh.vertices * desk.sets ≤ 65536 =
-          subst (λ n. mesh.vertices * n ≤ 65536) (so_far.made.sets ∙ sym made.sets) so_far.few in
+          let few : mesh.vertices * desk.sets ≤ 16777216 =
+          subst (λ n. mesh.vertices * n ≤ 16777216) (so_far.made.sets ∙ sym made.sets) so_far.few in
           let can = coverable mesh t c.requires.signed desk.sets made.sets desk.signs made.signs copied surface
           lengths c.requires.lengths few in
           let set_below : set < desk.sets = omega (arith, c.requires.set, made.sets) in

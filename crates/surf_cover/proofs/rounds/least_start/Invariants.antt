@@ -7,7 +7,7 @@ use Rattle.surf_cover.proofs.rounds.least_start.Given as goal
 abbrev pub invariant-loop-v : goal.invariant-loop-v
 invariant-loop-v l = record {
   made : AreCoverTables l.mesh l.desk;
-  few : l.mesh.vertices * l.desk.sets ≤ 65536;
+  few : l.mesh.vertices * l.desk.sets ≤ 16777216;
   signs : (e : ℕ) → e < edge_count l.mesh → slice_index l.desk.signs e ≡ slice_index l.cotree.signatures e;
   best : (tree : Tree) → IsSplit (cells_of l.mesh) (split_with tree l.cotree) →
       IsBestBelow l.mesh l.lengths (split_with tree l.cotree) l.cotree.signatures l.set l.number l.v l.best;

@@ -23,8 +23,8 @@ returns c =
     let copied : (e : ℕ) → e < length t.signs → slice_index t.signs e ≡ slice_index cotree.signatures e =
     λ e l. ap (λ (xs : List ℕ). slice_index xs e) c.grow_within.ensures.signs
     ∙ c.sign.ensures.signs e (omega (arith, l, made.signs)) in
-    let few : mesh.vertices * t.sets ≤ 65536 =
-    subst (λ n. mesh.vertices * n ≤ 65536) (c.sign.ensures.made.sets ∙ sym made.sets) c.sign.ensures.few in
+    let few : mesh.vertices * t.sets ≤ 16777216 =
+    subst (λ n. mesh.vertices * n ≤ 16777216) (c.sign.ensures.made.sets ∙ sym made.sets) c.sign.ensures.few in
     let can = coverable mesh cotree c.requires.signed t.sets made.sets t.signs made.signs copied surface lengths c.requires.lengths few in
     let all = reaches_all mesh lengths t.sets t.signs can are c.args.base far c.requires.base (omega arith)
     (slice_index t.distances) c.grow_within.ensures.reached.reached in

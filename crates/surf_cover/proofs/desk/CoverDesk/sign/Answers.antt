@@ -11,7 +11,7 @@ copy_signs-requires-clause-small c =
     let vertices : t.vertices ≡ mesh.vertices = ap (λ (x : CoverTables). x.vertices) c.self.view_is ∙ made.vertices in
     let sets : t.sets ≡ sets_of mesh = ap (λ (x : CoverTables). x.sets) c.self.view_is ∙ made.sets in
     let count : length t.signs.items ≡ edge_count mesh = ap (λ (x : CoverTables). length x.signs) c.self.view_is ∙ made.signs in
-    let few : mesh.vertices * t.sets ≤ 65536 = subst (λ n. n * t.sets ≤ 65536) vertices c.self.invariant.few in
+    let few : mesh.vertices * t.sets ≤ 16777216 = subst (λ n. n * t.sets ≤ 16777216) vertices c.self.invariant.few in
     λ e l.
     let small = sign_below mesh c.args.cotree.now c.requires.signed t.sets sets 0
     (some_vertex mesh c.law_of_surface.ensures.surface) few e (omega (arith, l, count, c.deref_mut.ensures.len)) in

@@ -1,6 +1,7 @@
-use Rattle.surf_answers.proofs.Common.{Some}
-use Rattle.surf_run.proofs.Common.{shortest, OnRequest, IsSurfaceText, resumed, text_stopped}
-use Rattle.surf_run.proofs.commands.shortest.answer.Goals as goal
+use Rattle.surf_run.proofs.Common.{IsSurfaceText, resumed, text_stopped}
+use Rattle.surf_answers.specs.ShortestWalk.{GivesShortestWalk}
+use Rattle.surf_run.specs.Fronts.{OnCovered}
+use Rattle.surf_run.proofs.commands.shortest.answer_within.Goals as goal
 
 pub returns-in_err-mesh-clause-tells : goal.returns-in_err-mesh-clause-tells
 returns-in_err-mesh-clause-tells g c =
@@ -10,6 +11,7 @@ pub returns-clause-tells : goal.returns-clause-tells
 returns-clause-tells g c =
     let read = c.in_ok-mesh in
     let held = read.ensures.held in
-    resumed (g.S.Shelf.faults c.answer_on.new.shelf) (OnRequest (Some (shortest c.args.mesh.now c.args.lengths.now c.args.walk.now)))
+    resumed (g.S.Shelf.faults c.answer_on.new.shelf)
+    (λ files. OnCovered c.args.asked.most_loops c.args.asked.most_nodes c.args.mesh.now c.args.asked.lengths.now c.args.asked.walk.now files (λ read. GivesShortestWalk read.1))
     read.ensures.holds read.ensures.later c.answer_on.result
     (c.answer_on.ensures.tells c.args.mesh.now held.0 held.1 held.2)
