@@ -45,7 +45,8 @@ pub fn disc_at(
         Err(CutFault::Near) => return Err(Refused::Near),
         Err(CutFault::Memory) => return Err(Refused::Memory),
     };
-    // (in their place a table of the opening would part what is free for the text)
+    // Freed only now: freed earlier, their room would go to a table of the opening, which would
+    // split the room that is free for the text.
     drop(lengths);
     Ok(opened)
 }

@@ -49,7 +49,7 @@ fn one_sided(alloc: Global, mesh: &Surface) -> Result<Answered, Refused>
     Ok(Answered::yes(text.into_bytes()))
 }
 
-/// The same of a surface of which only the kind is kept.
+/// The answer of `info` for a surface of which only the kind is kept.
 pub fn kind_info_of(alloc: Global, kind: &Kind) -> Result<Answered, Refused>
     ensures { Concludes (Informs kind.now) result }
 {

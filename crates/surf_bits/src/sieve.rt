@@ -144,7 +144,7 @@ impl Sieve {
     pub fn law_of_sieve(&self)
         ensures few { length self.now.admitted ≤ self.now.width }
     {
-        // (what a type keeps is known where one of its fields is used)
+        // The use of a field makes the invariant of the type known.
         let _ = &self.pivots;
     }
 

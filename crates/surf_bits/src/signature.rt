@@ -41,14 +41,14 @@ impl Signature {
         Signature { words }
     }
 
-    /// The same set once more.
+    /// A copy of the set.
     pub fn copy(&self) -> Signature
         ensures same { result ≡ self.now }
     {
         Signature { words: self.words }
     }
 
-    /// The same set, lent.
+    /// The set, lent.
     pub fn bits(&self) -> Bits<'_>
         ensures { result ≡ self.now }
     {

@@ -138,7 +138,7 @@ fn drain(nodes: &mut [Node], places: u32, now: u64, last: u64)
     }
 }
 
-// As many nodes as are asked for, each of which stands alone.
+// A node for each place, each of which stands alone.
 fn lone_nodes(alloc: Global, count: u32) -> Result<Vec<Node>, AllocError>
     ensures { IfOk result (λ v. IsAlone count v.items) }
 {

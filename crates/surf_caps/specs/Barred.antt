@@ -47,8 +47,12 @@ DependOnShorterOr mesh lengths trees z most margin least found =
     (filter (λ k. is_shorter_by margin (loop_length mesh lengths (trees z) e) k || nat_le k.size least) found))
     (loop_walk mesh (trees z) e)
 
--- `NearVerticesNeedNoMore` for the places that are sought at each vertex, where loops may also
--- depend on what is shorter than all that is sought.
+-- Let loops be enough for the places that are sought at each vertex, and let further places lie
+-- between two lengths, l and m. Let each loop at a vertex z up to m + 2d depend on those of the
+-- loops that are shorter than it by more than 2d, or no longer than l. Then the loops are enough
+-- for the further places at the vertices within d of z too. The lengths that z's loops and
+-- distances go by may differ at the edges with an end in a set where the further places are sought
+-- already.
 abbrev pub NearPlacesNeedNoMore : Type 0
 NearPlacesNeedNoMore =
     (mesh : Mesh) (lengths other : List ℕ) (trees others : ℕ → Tree) (sought : Sought) (set : ℕ → Bool)

@@ -93,7 +93,8 @@ MeetsUpTo mesh lengths target sought =
     (IsSumOfShorter mesh lengths walk → ⊥) →
     (v : ℕ) × Contains walk v × IsTrue (sought v (place_of_walk mesh lengths walk))
 
--- Places that are sought at all vertices meet the walks.
+-- Where places are sought at all vertices, each closed walk goes over a vertex where its place is
+-- sought.
 abbrev pub EverywhereMeets : Type 0
 EverywhereMeets = (mesh : Mesh) (lengths : List ℕ) (target : Place → Bool) →
     MeetsUpTo mesh lengths target (everywhere target)
@@ -128,8 +129,8 @@ HaveAskedEnds mesh sizes height target sought =
     IsTrue (asks sizes (height e) place.0) →
     IsTrue (sought (ends mesh e).0 place) ⊎ IsTrue (sought (ends mesh e).1 place)
 
--- Where each edge has an end at which the places are sought for which it asks, walks that are no
--- sums of shorter ones go over vertices where their places are sought.
+-- Where each edge has an end at which the places are sought for which it asks, each closed walk
+-- that is no sum of shorter ones goes over a vertex where its place is sought.
 abbrev pub AskedEndsMeet : Type 0
 AskedEndsMeet =
     (mesh : Mesh) (lengths : List ℕ) (d : Split) (cycles : List (List ℕ)) (sizes : List ℕ) (height : ℕ → Option ℕ)
@@ -137,8 +138,8 @@ AskedEndsMeet =
     AreSized mesh lengths cycles sizes → AreHeights mesh d cycles height →
     HaveAskedEnds mesh sizes height target sought → MeetsUpTo mesh lengths target sought
 
--- Walks that are no sums of shorter ones go over vertices of a set that every closed walk meets
--- which is not null.
+-- If every closed walk that isn't null meets a set of vertices, so does every closed walk that is
+-- no sum of shorter ones.
 abbrev pub SetsMeet : Type 0
 SetsMeet =
     (mesh : Mesh) (lengths : List ℕ) (set : ℕ → Bool) (target : Place → Bool) → MeetsAll mesh set →
@@ -176,8 +177,8 @@ FoundAreWalks =
     (mesh : Mesh) (lengths : List ℕ) (found : List Found) → IsSurface mesh → ArePositive mesh lengths →
     All (IsFoundBy mesh lengths) found → FoundLaw mesh lengths found
 
--- Each closed walk whose place passes a test depends on loops that are enough and come no later
--- than it, where such walks are met.
+-- Where the walks that pass a test and are no sums of shorter ones are met, each closed walk that
+-- passes it depends on loops that are enough and come no later than it.
 abbrev pub WalksDependOnEnough : Type 0
 WalksDependOnEnough =
     (mesh : Mesh) (lengths : List ℕ) (searched : ℕ → Tree) (target : Place → Bool) (sought : Sought)
@@ -194,8 +195,9 @@ places_found target found = map place_of_found (filter (λ k. target (place_of_f
 abbrev pub places_chosen : (Place → Bool) → List Loop → List Place
 places_chosen target basis = map place_of_loop (filter (λ c. target (place_of_loop c)) basis)
 
--- For lengths nowhere below those of the mesh, each loop of an edge whose place passes a test
--- depends on loops that are enough and come no later.
+-- Where the walks that pass a test and are no sums of shorter ones are met, each loop of an edge
+-- that passes it, by lengths nowhere below those of the mesh, depends on loops that are enough and
+-- come no later than it.
 abbrev pub LoopsDependOnEnough : Type 0
 LoopsDependOnEnough =
     (mesh : Mesh) (lengths : List ℕ) (searched : ℕ → Tree) (target : Place → Bool) (sought : Sought)
@@ -206,8 +208,8 @@ LoopsDependOnEnough =
     AreShortestTrees mesh other others → z < mesh.vertices → e < edge_count mesh →
     IsTrue (target (place_at mesh other others z e)) → DependsAtPlace mesh other others found z e
 
--- Loops that are enough at vertices where such walks are met are enough at all vertices, for the
--- places that pass the test.
+-- Where the walks that pass a test and are no sums of shorter ones are met, loops that are enough
+-- for what is sought are enough at all vertices for all places that pass it.
 abbrev pub EnoughEverywhere : Type 0
 EnoughEverywhere =
     (mesh : Mesh) (lengths : List ℕ) (searched : ℕ → Tree) (target : Place → Bool) (sought : Sought)
@@ -215,8 +217,8 @@ EnoughEverywhere =
     IsSoughtFromStart target → AreSoughtFromStart sought → MeetsUpTo mesh lengths target sought →
     AreEnoughFor mesh lengths searched sought found → AreEnoughFor mesh lengths searched (everywhere target) found
 
--- Each loop of the basis whose place passes a test goes over a vertex where its place is sought,
--- where walks are met that are no sums of shorter ones.
+-- Where the walks that pass a test and are no sums of shorter ones are met, each loop of the chosen
+-- basis that passes it goes over a vertex where its place is sought.
 abbrev pub ChosenLoopsAreMet : Type 0
 ChosenLoopsAreMet =
     (mesh : Mesh) (lengths : List ℕ) (trees : ℕ → Trees) (target : Place → Bool) (sought : Sought)
@@ -231,8 +233,9 @@ pub record HavePlacesUpTo (mesh : Mesh) (target : Place → Bool) (found : List 
   pub same : IsIndependent mesh (walks_found found) → IsInOrder comes_no_later found →
       places_found target found ≡ places_chosen target basis
 
--- Each loop of the basis whose place passes a test has the place of one of the loops that are
--- enough; where these are independent and in order, the places that pass are equal one by one.
+-- Where the walks that pass a test and are no sums of shorter ones are met, each loop of the chosen
+-- basis that passes it has the place of one of the loops that are enough. If these are independent
+-- and in order, the places that pass are equal one by one.
 abbrev pub EnoughHavePlaces : Type 0
 EnoughHavePlaces =
     (mesh : Mesh) (lengths : List ℕ) (trees : ℕ → Trees) (searched : ℕ → Tree) (target : Place → Bool)
@@ -247,8 +250,9 @@ pub record HaveAllPlaces (found : List Found) (basis : List Loop) : Type 0 where
   pub some : All (HasFound found) basis
   pub same : IsInOrder comes_no_later found → map place_of_found found ≡ map place_of_loop basis
 
--- As many independent loops as may be, none later than a place, have all places of the basis where
--- they are enough for what comes before that place.
+-- Where the walks that come before a place and are no sums of shorter ones are met, 2 − χ
+-- independent loops that are enough, none later than that place, have all places of the chosen
+-- basis, and one by one if they are in order.
 abbrev pub FullCountHasPlaces : Type 0
 FullCountHasPlaces =
     (mesh : Mesh) (lengths : List ℕ) (trees : ℕ → Trees) (searched : ℕ → Tree) (limit : Place)
@@ -309,7 +313,9 @@ pub record CapsGrow (mesh : Mesh) (lengths : List ℕ) (trees : ℕ → Tree) : 
       × ((e : ℕ) → e < edge_count mesh → IsTrue (here (place_at mesh lengths trees z e)) →
       DependsAtPlace mesh lengths trees (kept ++ loops) z e)
 
--- How such loops are kept, vertex by vertex.
+-- How loops that are enough are kept, vertex by vertex: none are enough for nothing; the choice
+-- from those kept and others is enough for what those kept were; with all loops of one more vertex
+-- they are enough there too.
 abbrev pub CapsGrowEnough : Type 0
 CapsGrowEnough = (mesh : Mesh) (lengths : List ℕ) (trees : ℕ → Tree) → IsSurface mesh → ArePositive mesh lengths →
     AreShortestTrees mesh lengths trees → CapsGrow mesh lengths trees

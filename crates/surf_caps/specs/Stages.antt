@@ -23,8 +23,8 @@ use Rattle.surf_caps.specs.Caps.{Sought, up_to_length, either, MeetsUpTo, AreSiz
 use Rattle.surf_caps.specs.Caps.{AreSoughtFromStart, places_found, places_chosen, IsNextChoice}
 use Rattle.surf_caps.specs.Quotients.{IsQuotient}
 
--- What is found up to a length has the places of the basis up to it, where nothing longer is
--- sought.
+-- Where the walks up to a length that are no sums of shorter ones are met, independent loops in
+-- order that are enough have the places of the chosen basis up to that length, one by one.
 abbrev pub StagesHavePlaces : Type 0
 StagesHavePlaces =
     (mesh : Mesh) (lengths : List ℕ) (trees : ℕ → Trees) (searched : ℕ → Tree) (most : ℕ) (sought : Sought)
@@ -51,8 +51,9 @@ StagesMeet =
 abbrev pub IsClassQuotient : Mesh → Split → (ℕ → ℕ) → List (List ℕ) → Type 0
 IsClassQuotient mesh d image final = IsQuotient numbers numbers image (map (class_of mesh d) final)
 
--- A closed walk that is no sum of those that are final runs an edge an odd number of times whose
--- image isn't empty.
+-- Let a linear map take just the sums of the classes of final walks to zero. A closed walk that is
+-- no sum of those walks runs an edge an odd number of times whose signature the map doesn't take to
+-- zero.
 abbrev pub ImagesMeet : Type 0
 ImagesMeet =
     (mesh : Mesh) (d : Split) (image : ℕ → ℕ) (final : List (List ℕ)) (walk : List ℕ) → IsSurface mesh →
@@ -108,8 +109,10 @@ AreFoundByImage mesh d image lengths trees z here loops =
     ⊎ ((k : Found) × Contains loops k × IsTrue (is_within (place_at mesh lengths trees z e) k)
     × (image (class_of mesh d k.walk) ≡ image (class_of mesh d (loop_walk mesh (trees z) e))))
 
--- The loops at a vertex depend on what is final and what was found, where each has an empty image
--- or the image of one that was found and comes no later.
+-- Let a linear map take just the sums of the classes of final loops to zero; it gives each class
+-- its image. Let the sought loops at a vertex, longer than all final ones, have the image zero or
+-- that of a found loop that comes no later. Then they depend on final loops and found ones that
+-- come no later.
 abbrev pub FoundByImageDepend : Type 0
 FoundByImageDepend =
     (mesh : Mesh) (d : Split) (image : ℕ → ℕ) (lengths : List ℕ) (trees : ℕ → Tree) (z least : ℕ)

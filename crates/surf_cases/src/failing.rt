@@ -34,7 +34,8 @@ fn difference_of_two(
     Ok(difference(&answer, status, out, diag))
 }
 
-// The same over a shelf that gives 16 bytes a read and one of whose calls fails.
+// What differs from the answers due when one call fails: as `difference_of_two` says it, over a
+// shelf that gives 16 bytes a read.
 fn difference_at(alloc: Global, line: &str, text: &str, call: u64) -> Result<&'static str, Fail> {
     let mut shelf = shelf_of(alloc, 16, &[call])?;
     let mut out = sink_of(alloc, 1_000, 7, &[])?;

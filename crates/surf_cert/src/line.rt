@@ -110,7 +110,7 @@ pub(crate) fn read_base(line: &[u8]) -> Option<VertexId>
     if tokens.is_empty() { Some(base) } else { None }
 }
 
-/// The same for this vertex alone.
+/// The base of a line `tree x`, where it is this vertex.
 pub(crate) fn read_base_at(x: u32, line: &[u8]) -> Option<VertexId>
     ensures base { result ≡ base_at x (tokens_of line.now) }
 {

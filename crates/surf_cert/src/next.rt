@@ -51,7 +51,7 @@ pub(crate) fn next_base(lines: &mut Lines<'_>) -> Result<VertexId, CertText>
     read_base(line.bytes).ok_or(CertText::Form { line: line.number })
 }
 
-/// The same for this base alone.
+/// The next line, which gives this vertex as the base of a tree.
 #[tactic(auto, unfolding(crate::specs::Grammar::next_of))]
 pub(crate) fn next_base_at(lines: &mut Lines<'_>, base: u32) -> Result<VertexId, CertText>
     ensures base { Gives CertText.Memory (λ x. (x, lines.new)) result

@@ -141,7 +141,7 @@ pub(crate) fn read_dual(
     read_dual_rows(alloc, lines, faces)
 }
 
-// So many pairs, each greater than the one before.
+// A given number of pairs, each greater than the one before.
 fn read_pairs(
     alloc: Global,
     lines: &mut Lines<'_>,
@@ -160,7 +160,7 @@ fn read_pairs(
     Ok(pairs)
 }
 
-/// So many left edges.
+/// The left edges, as many as the counts say.
 #[tactic(auto, unfolding(crate::specs::Grammar::left_of))]
 pub(crate) fn read_left(
     alloc: Global,
@@ -186,7 +186,7 @@ fn read_walks(alloc: Global, lines: &mut Lines<'_>, count: u32) -> Result<Vec<Wa
     Ok(walks)
 }
 
-/// So many cycles.
+/// The cycles, as many as the counts say.
 #[tactic(auto, unfolding(crate::specs::Grammar::cycles_of))]
 pub(crate) fn read_cycles(
     alloc: Global,

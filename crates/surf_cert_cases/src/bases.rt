@@ -37,7 +37,8 @@ fn judged(alloc: Global, mesh: &HalfMesh, cert: &BasisCert) -> Option<Result<u12
     Some(check_basis(alloc, mesh, &lengths, cert))
 }
 
-// The same certificate, with this base for the tree at vertex 0 and so many trees.
+// A certificate with another base for its tree at vertex 0, and with no more than a number of its
+// trees.
 fn rebased(
     alloc: Global,
     cert: &BasisCert,
@@ -67,7 +68,7 @@ fn rebased(
     Ok(BasisCert::make(trees, dual, cert.left().to_vec(alloc)?, cycles))
 }
 
-// What the checker says of the same certificate with that base and so many trees.
+// What the checker says of a certificate with another base and no more than a number of its trees.
 fn judged_with(
     alloc: Global,
     mesh: &HalfMesh,
@@ -79,7 +80,7 @@ fn judged_with(
     judged(alloc, mesh, &other)
 }
 
-// The same of the certificate as it is, with another base, and with a tree less besides.
+// What the checker says of a certificate as it is, with another base, and with a tree less besides.
 fn three_judged(
     alloc: Global,
     mesh: &HalfMesh,

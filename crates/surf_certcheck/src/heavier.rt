@@ -131,7 +131,8 @@ impl Judge<'_> {
         self.least_between(limit, faces_inside(self.mesh, l))
     }
 
-    // The same for a left edge that is still doubtful.
+    // The least edge on the way between the two faces of a left edge whose loop is shorter, if the
+    // left edge is still doubtful.
     fn shorter_if_doubtful(&self, doubts: &[bool], l: EdgeId) -> Option<EdgeId>
         requires doubts { AreDoubts self.now doubts.now }
         requires edge { l < edge_count self.now.mesh.now }

@@ -140,7 +140,8 @@ fn plain_orientation(alloc: Global, mesh: &Surface) -> Result<Option<Turning>, N
     }
 }
 
-// The same as `orient_surface`, by a tree of the faces.
+// A turning of a surface or a one-sided chain, as `orient_surface` answers it, by a tree of the
+// faces.
 fn orient_by_tree(alloc: Global, mesh: &Surface) -> Result<Sides, NoMemory>
     ensures { IfOk result (λ s. AreSides mesh.now s) }
 {

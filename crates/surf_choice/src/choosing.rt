@@ -68,7 +68,7 @@ impl Choice {
     pub fn law_of_choice(&self)
         ensures few { length self.now.kept ≤ self.now.width }
     {
-        // (what a type keeps is known where one of its fields is used)
+        // The use of a field makes the invariant of the type known.
         let _ = &self.kept;
     }
 

@@ -87,7 +87,7 @@ fn reduce(rows: &[Signature], tops: &[u32], places: &[u32], set: &mut [u64]) -> 
     None
 }
 
-// As many as a count, or so many that a place is among the first of them.
+// The least count from a given one on that has a place among its first.
 fn count_with(count: usize, place: usize) -> usize
     requires few { place < 1024 }
     ensures old { count ≤ result }
@@ -208,7 +208,7 @@ impl Echelon {
         ensures few { length self.now.rows ≤ self.now.width }
         ensures width { self.now.width ≤ MAX_LOOPS }
     {
-        // (what a type keeps is known where one of its fields is used)
+        // The use of a field makes the invariant of the type known.
         let _ = &self.rows;
     }
 }

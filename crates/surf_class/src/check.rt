@@ -203,10 +203,10 @@ fn check_pairs(alloc: Global, flagged: &FlaggedMesh<'_>, list: &PairList) -> Res
     }
 }
 
-/// Whether evidence is right for a closed walk: its faces have the parity of the walk as their
-/// boundary, or of its edges each face has an even number as sides and the parity an odd number.
-/// Refuses with the first fault in the order of [`ClassFault`], each with its least witness, or
-/// with `Memory` where there is none.
+/// Whether evidence is right for a closed walk: either its faces bound the walk modulo 2, or its
+/// edges are a cocycle, of which each face has an even number as sides, and the walk runs them an
+/// odd number of times. Refuses with the first fault in the order of [`ClassFault`], each with its
+/// least witness, or with `Memory` where there is none.
 pub fn check_class(
     alloc: Global,
     mesh: &HalfMesh,

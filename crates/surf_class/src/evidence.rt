@@ -34,7 +34,7 @@ impl FaceList {
     pub(crate) fn law_of_faces(&self)
         ensures rises { AllPairs (λ a b. a < b) self.now }
     {
-        // (what a type keeps is known where one of its fields is used)
+        // The use of a field makes the invariant of the type known.
         let _ = &self.list;
     }
 
@@ -80,7 +80,7 @@ impl PairList {
         ensures rises { AllPairs (λ a b. pair_lt a b ≡ true) self.now }
         ensures ordered { All (λ a. a.0 < a.1) self.now }
     {
-        // (what a type keeps is known where one of its fields is used)
+        // The use of a field makes the invariant of the type known.
         let _ = &self.list;
     }
 

@@ -80,7 +80,7 @@ fn as_pairs(alloc: Global, numbers: &[u32]) -> Result<Vec<(VertexId, VertexId)>,
     Ok(pairs)
 }
 
-// So many faces, increasing.
+// Null evidence by the numbers of its line: a count, and as many faces, increasing.
 fn read_faces(alloc: Global, line: u32, numbers: &[u32]) -> Result<Evidence, EvidenceFault>
     ensures faces { Gives EvidenceFault.Memory seen result (if_formed line (counted face_numbers
         (Ok numbers.now))) }
@@ -95,7 +95,7 @@ fn read_faces(alloc: Global, line: u32, numbers: &[u32]) -> Result<Evidence, Evi
     Ok(Evidence::Null(FaceList::from_faces(faces)))
 }
 
-// So many edges, increasing.
+// Odd evidence by the numbers of its line: a count, and the ends of as many edges, increasing.
 fn read_pairs(alloc: Global, line: u32, numbers: &[u32]) -> Result<Evidence, EvidenceFault>
     ensures pairs { Gives EvidenceFault.Memory seen result (if_formed line (counted pair_numbers
         (Ok numbers.now))) }

@@ -59,7 +59,7 @@ pub record IsCover (mesh : Mesh) (d : Split) : Type 0 where
 abbrev pub CoversAreGraphs : Type 0
 CoversAreGraphs = (mesh : Mesh) (d : Split) → IsSurface mesh → IsSplit (cells_of mesh) d → IsCover mesh d
 
--- A search over it makes a certified table.
+-- A search over the cover makes a certified table.
 abbrev pub SearchesCertify : Type 0
 SearchesCertify =
     (mesh : Mesh) (lengths : List ℕ) (d : Split) → IsSurface mesh → IsSplit (cells_of mesh) d → (x : ℕ) →

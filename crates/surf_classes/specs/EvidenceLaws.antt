@@ -37,7 +37,8 @@ NullChoiceIsOne = (mesh : Mesh) → IsSurface mesh → (chain : Chain) → IsBou
     (faces : List ℕ) × IsChosenNull mesh chain faces
     × ((other : List ℕ) → IsChosenNull mesh chain other → other ≡ faces)
 
--- The faces of a set with that boundary and without face 0 are it.
+-- The chosen null evidence of a boundary lists, in order, the faces of the set without face 0 whose
+-- boundary it is.
 abbrev pub NullChoiceIsFiltered : Type 0
 NullChoiceIsFiltered = (mesh : Mesh) → IsSurface mesh → (chain : Chain) (set : ℕ → Bool) →
     ((e : ℕ) → e < edge_count mesh → boundary mesh set e ≡ chain e) → set 0 ≡ false →
@@ -57,7 +58,7 @@ abbrev pub OddChoiceIsRight : Type 0
 OddChoiceIsRight = (mesh : Mesh) (d : Split) → IsSurface mesh → IsSplit (cells_of mesh) d →
     (chain : Chain) (pairs : List (ℕ × ℕ)) → IsChosenOdd mesh d chain pairs → IsOddEvidence mesh chain pairs
 
--- Closed walks whose chain is no boundary have one.
+-- Closed walks whose chain is no boundary have one chosen odd evidence.
 abbrev pub OddChoiceIsOne : Type 0
 OddChoiceIsOne = (mesh : Mesh) (d : Split) → IsSurface mesh → IsSplit (cells_of mesh) d →
     (walk : List ℕ) (other : Option (List ℕ)) → AreClosed mesh walk other →
@@ -122,7 +123,7 @@ abbrev pub FaultsAreTold : Type 0
 FaultsAreTold = (mesh : Mesh) (chain : Chain) (evidence : Evidence) → IsRising evidence →
     FaultsTell mesh chain evidence
 
--- What is chosen is right.
+-- Chosen evidence is right.
 abbrev pub ChosenEvidenceIsRight : Type 0
 ChosenEvidenceIsRight = (mesh : Mesh) (d : Split) → IsSurface mesh → IsSplit (cells_of mesh) d →
     (chain : Chain) (evidence : Evidence) → IsChosen mesh d chain evidence → IsEvidence mesh chain evidence

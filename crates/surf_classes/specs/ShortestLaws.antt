@@ -24,7 +24,7 @@ ChosenWalkIsOne = (mesh : Mesh) (lengths walk : List ℕ) → IsSurface mesh →
     (chosen : List ℕ) × IsChosenWalk mesh lengths walk chosen
     × ((other : List ℕ) → IsChosenWalk mesh lengths walk other → other ≡ chosen)
 
--- In the class of a null walk it is vertex 0 alone.
+-- In the class of a null walk the chosen walk is vertex 0 alone.
 abbrev pub NullChoiceIsVertex : Type 0
 NullChoiceIsVertex = (mesh : Mesh) (lengths walk : List ℕ) → IsSurface mesh → ArePositive mesh lengths →
     IsClosed mesh walk → IsNull mesh walk → IsChosenWalk mesh lengths walk (0 ∷ [])

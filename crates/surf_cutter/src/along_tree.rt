@@ -28,8 +28,8 @@ pub fn cut_full(alloc: Global, mesh: &HalfMesh, cotree: &CotreeDesk) -> Result<O
     open_full(alloc, HeldTree::of(mesh, flags))
 }
 
-/// The same with the cut trimmed: while more than two edges are cut and a vertex has exactly one of
-/// them, the greatest such vertex loses it.
+/// A surface cut open along the trimmed cut: while more than two edges are cut and a vertex has
+/// exactly one of them, the greatest such vertex loses it.
 pub fn cut_trim(alloc: Global, mesh: &HalfMesh, cotree: &CotreeDesk) -> Result<Opened, NoMemory>
     requires size { length cotree.now.held ≡ edge_count mesh.now }
     requires held { IsHeld mesh.now cotree.now.held }

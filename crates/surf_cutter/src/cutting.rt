@@ -186,7 +186,7 @@ pub(crate) fn open_full(alloc: Global, held: HeldTree<'_>) -> Result<Opened, NoM
     open_bordered(alloc, &cut)
 }
 
-/// The same along the trimmed cut.
+/// The surface cut along the trimmed cut, with its border.
 pub(crate) fn open_trimmed(alloc: Global, held: HeldTree<'_>) -> Result<Opened, NoMemory>
     ensures chosen { IfOk result (λ o. IsChosenFor held.entry.mesh held.entry.marks trimmed o) }
     ensures opening { IfOk result (λ o. IsOpening held.entry.mesh o.origins o.faces) }
@@ -196,7 +196,7 @@ pub(crate) fn open_trimmed(alloc: Global, held: HeldTree<'_>) -> Result<Opened, 
     open_bordered(alloc, &cut)
 }
 
-/// The same along the cut through some vertices.
+/// The surface cut along the cut through some vertices, with its border.
 pub(crate) fn open_through(
     alloc: Global,
     held: HeldTree<'_>,

@@ -34,9 +34,10 @@ AgreeOff mesh lengths other set = (e : ℕ) → e < edge_count mesh → IsFalse 
 abbrev pub IsSoughtFromStart : (Place → Bool) → Type 0
 IsSoughtFromStart sought = (p q : Place) → IsTrue (is_no_later p q) → IsTrue (sought q) → IsTrue (sought p)
 
--- Where loops are enough for a set of vertices, up to a length, and each loop at a vertex that is
--- longer by no more than a way there and back depends on shorter ones of them, they are enough, up
--- to that length, with the vertices that are no farther away.
+-- Let loops be enough at the vertices of a set, for sought places that are no longer than m. Let
+-- each loop at a vertex z up to m + 2d depend on those of them that are shorter than it by more
+-- than 2d. Then they are enough at the vertices within d of z too. The lengths that z's loops and
+-- distances go by may differ at the edges with an end in the set.
 abbrev pub NearVerticesNeedNoMore : Type 0
 NearVerticesNeedNoMore =
     (mesh : Mesh) (lengths other : List ℕ) (trees others : ℕ → Tree) (sought : Place → Bool) (set : ℕ → Bool)

@@ -11,7 +11,8 @@ pushed n digits = fold (λ n b. n * 10 + (b - 48)) n digits
 abbrev pub in_range : ℕ → Option ℕ
 in_range n = if nat_lt n (10 ^ 18) then Some n else None
 
--- The same up to so many places behind the number. Where the digits are fewer, zeros follow.
+-- the number whose decimal text is that of n and then as many digits as there are places behind it. Where the digits
+-- are fewer, zeros follow
 abbrev pub pushed_to : ℕ → List ℕ → ℕ → ℕ
 pushed_to n digits places =
     if nat_le places (length digits)

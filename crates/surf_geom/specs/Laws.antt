@@ -7,8 +7,8 @@ pub record IsMeasure (unit s n : ℕ) : Type 0 where
   pub within : n * n * unit ≤ s
   pub greatest : s < (n + 1) * (n + 1) * unit
 
--- As many units as a measure says are no longer than the distance of the fixed values, and one more
--- is longer.
+-- A measure is the greatest number of units that are no longer than the distance of the fixed
+-- values.
 abbrev pub MeasuresAreGreatest : Type 0
 MeasuresAreGreatest = (k s : ℕ) → IsMeasure (unit_square k) s (measure_of (unit_square k) s)
 

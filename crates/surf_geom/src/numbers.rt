@@ -84,7 +84,7 @@ fn read_exponent(text: &[u8]) -> Option<(u32, u32)>
     Some(if negative { (0, size) } else { (size, 0) })
 }
 
-// The same for what stands behind a letter, if there is one.
+// By how many powers of ten what stands behind a letter raises and lowers, if there is a letter.
 fn read_shift(exponent: Option<&[u8]>) -> Option<(u32, u32)>
     ensures exponent { result ≡ exponent_of (seen exponent.entry) }
     ensures small { IfSome result (λ x. (x.0 ≤ 999) × (x.1 ≤ 999)) }
@@ -102,7 +102,7 @@ fn are_digits(bytes: &[u8]) -> bool
     !bytes.is_empty() && all_digits(bytes)
 }
 
-// The same of both together.
+// Whether two texts together have at least one digit, and nothing else.
 fn are_mantissa(front: &[u8], behind: &[u8]) -> bool
     ensures digits { result ≡ are_digits (front.now ++ behind.now) }
 {

@@ -158,7 +158,8 @@ abbrev pub GraphLoopsAreClosed : Type 0
 GraphLoopsAreClosed = (g : Graph) (t : Tree) → IsGraph g → IsTree g t → (l : ℕ) → l < g.edges →
     IsGraphWalk g t.root (graph_loop_walk g t l) t.root
 
--- In a shortest tree of a graph without double edges it has the loop's edges and length.
+-- In a shortest tree of a graph without double edges the walk of an edge's loop has the loop's
+-- edges and length.
 abbrev pub LoopsAreWalks : Type 0
 LoopsAreWalks = (g : Graph) (len : ℕ → ℕ) (t : Tree) → IsGraph g → IsSimple g → IsTree g t →
     IsShortest g len t → (l : ℕ) → l < g.edges →

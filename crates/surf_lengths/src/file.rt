@@ -91,7 +91,7 @@ fn next_by_tokens(
     Ok(Some(entry))
 }
 
-// The same, with plain lines in one pass.
+// What the next line says: a plain line is read in one pass, another by its tokens.
 fn next_entry(
     mesh: &HalfMesh,
     lines: &mut PlacedLines<'_>,

@@ -48,7 +48,7 @@ impl Lengths {
         ensures lengths { AreLengths self.now }
         ensures few { length self.now < 2 ^ 32 }
     {
-        // (what a type keeps is known where one of its fields is used)
+        // The use of a field makes the invariant of the type known.
         let _ = &self.values;
     }
 

@@ -36,7 +36,8 @@ fn heads_are(mesh: &HalfMesh, heads: &[LoopHead], want: &[(u32, u32, u64)]) -> b
     same
 }
 
-// The same of the loops at vertex 0, where there is one and memory suffices.
+// Whether the loops at vertex 0 are those of some edges with lengths, where there is such a vertex
+// and memory suffices.
 fn loops_are(alloc: Global, mesh: &HalfMesh, want: &[(u32, u32, u64)]) -> Option<bool> {
     if mesh.vertices() == 0 {
         return None;

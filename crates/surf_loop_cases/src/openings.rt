@@ -181,7 +181,7 @@ fn star() -> Want {
     }
 }
 
-// The same, where the greatest leaf, 3, loses its edge.
+// A tetrahedron along the star of its tree, where the greatest leaf, 3, loses its edge.
 fn trimmed_star() -> Want {
     Want {
         origins: &[0, 0, 1, 2, 3],

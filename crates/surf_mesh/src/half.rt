@@ -48,7 +48,7 @@ impl HalfMesh {
         }
     }
 
-    // The same, by its sides in pairs.
+    // The mesh of a surface whose sides are paired already.
     fn from_pairing(alloc: Global, soup: Soup, pairing: Pairing) -> Result<HalfMesh, NoMemory>
         requires surface { IsSurface soup }
         requires pairing { IsPairingOf soup pairing }
@@ -81,7 +81,7 @@ impl HalfMesh {
         })
     }
 
-    /// The same surface without its rings.
+    /// The surface, without its rings.
     pub fn surface(&self) -> &Surface
         ensures { result.now ≡ self.now }
     {

@@ -95,7 +95,7 @@ impl Surface {
         ensures faces { face_count self.now < 2 ^ 30 }
         ensures edges { edge_count self.now < 2 ^ 30 }
     {
-        // (what a type keeps is known where one of its fields is used)
+        // The use of a field makes the invariant of the type known.
         let _vertices = self.vertices;
     }
 

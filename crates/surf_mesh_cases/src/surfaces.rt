@@ -40,7 +40,8 @@ fn is_odd(faces: Faces, chain: &Chain) -> Option<bool> {
     Some(odd)
 }
 
-// The same of the chain that shows that a surface has one side.
+// Whether the chain that shows that a surface has one side passes an odd number of links that are
+// run the same way; none where a surface has two sides.
 fn has_odd_chain(alloc: Global, mesh: &HalfMesh, faces: Faces) -> Option<bool> {
     match orient(alloc, mesh).ok()? {
         Sides::Two(_) => None,

@@ -6,7 +6,7 @@
 //!
 //! Vertices may be barred from later searches. A search still is one of the whole mesh, but each
 //! edge with a barred end has the greatest length that there is: so one that goes less far doesn't
-//! come to a barred vertex, unless it begins there. `unbar` lets no vertex be barred any more.
+//! come to a barred vertex, unless it begins there. `unbar` removes all bars.
 //!
 //! A search settles the vertices from a base on, the nearest first, as far as the radius
 //! (E. W. Dijkstra, "A note on two problems in connexion with graphs", 1959), with a fringe in

@@ -184,7 +184,7 @@ impl<'m> Links<'m> {
     pub fn law_of_links(&self)
         ensures links { AreLinks self.now.mesh self.now.lengths self.now.rows }
     {
-        // (what a type keeps is known where one of its fields is used)
+        // The use of a field makes the invariant of the type known.
         let _barring = self.barring;
     }
 

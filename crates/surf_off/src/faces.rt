@@ -53,7 +53,7 @@ fn read_corner(line: u32, vertices: u32, place: u32, token: &[u8]) -> Result<Ver
     }
 }
 
-// So many corners, in place of those that were kept.
+// The corners of a face of a given size, in place of those that were kept.
 fn read_corners(
     line: u32,
     vertices: u32,
@@ -116,7 +116,8 @@ fn repeated(marks: &mut [u32], stamp: u32, corners: &[VertexId]) -> Option<Verte
     None
 }
 
-// The same, however many corners there are.
+// The first corner whose vertex stands before, as `repeated` finds it, out of line for faces of
+// many corners.
 #[inline(never)]
 fn repeated_of_any(marks: &mut [u32], stamp: u32, corners: &[VertexId]) -> Option<VertexId>
     requires within { All (λ u. u < length marks.old) corners.now }
@@ -260,8 +261,8 @@ fn next_by_tokens(
     }))
 }
 
-// The same, with plain lines in one pass. A line with a fault other than a repeated corner isn't
-// plain, so the order of faults is that of the tokens.
+// The next face line. A plain line is read in one pass. One with a fault other than a repeated
+// corner isn't plain, so the order of faults is that of the tokens.
 fn next_face(
     lines: &mut PlacedLines<'_>,
     vertices: u32,
@@ -292,7 +293,8 @@ fn next_face(
     Ok(Some(colour))
 }
 
-/// So many face lines over so many vertices. Their colours are put to those that are kept.
+/// The face lines of a text, as many as its counts say, over its vertices. Their colours are put to
+/// those that are kept.
 pub(crate) fn read_faces(
     alloc: Global,
     lines: &mut PlacedLines<'_>,

@@ -3,7 +3,7 @@
 //! The format is that of the Geomview manual, "OFF Files", read by lines: one vertex or one face a
 //! line, and comments and line ends as in `surf_text`. The eight keywords without `4` and `n` are
 //! read. Coordinates and colours stay text: an [`OffText`] keeps their places in the source, lends
-//! them as slices of it and copies nothing. The mesh itself is a `Soup` of `surf_mesh`. What a text
+//! them as slices of it and copies nothing. The mesh itself is a `Soup` of `surf_soup`. What a text
 //! is, or its first fault, is one definition over the list of its lines, and [`read_off`] answers
 //! it, fault by fault; [`read_soup`] answers its mesh alone.
 #![tactic(auto)]

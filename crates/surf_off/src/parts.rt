@@ -65,7 +65,7 @@ impl<'a> Parts<'a> {
     pub(crate) fn law_of_parts(&self)
         ensures countable { length self.now.parts < 2 ^ 64 }
     {
-        // (what a type keeps is known where one of its fields is used)
+        // The use of a field makes the invariant of the type known.
         let _ = self.spans.len();
     }
 

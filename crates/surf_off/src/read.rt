@@ -48,8 +48,8 @@ pub fn read_off<'a>(alloc: Global, text: &'a [u8]) -> Result<(OffText<'a>, Soup)
     Ok((places.over(text), soup))
 }
 
-/// The same with the places of the vertex lines and colours in place of the slices, so that the
-/// text is free to go or to be cut short.
+/// Reads an OFF text as [`read_off`] does, with the places of the vertex lines and colours in place
+/// of the slices, so that the text is free to go or to be cut short.
 #[tactic(auto, unfolding(crate::specs::Off::off_in))]
 pub fn read_places(alloc: Global, text: &[u8]) -> Result<(OffPlaces, Soup), OffFault>
     requires short { length text.now < 4294967295 }

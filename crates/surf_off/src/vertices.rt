@@ -35,8 +35,8 @@ fn next_vertex<'a>(
     }
 }
 
-/// So many vertex lines, which so many face lines are to follow. They are put to those that are
-/// kept.
+/// The vertex lines of a text, as many as its counts say, before its face lines. They are put to
+/// those that are kept.
 pub(crate) fn read_vertices(
     lines: &mut PlacedLines<'_>,
     vertices: u32,
@@ -62,7 +62,7 @@ pub(crate) fn read_vertices(
     Ok(())
 }
 
-/// The same lines, of which none is kept.
+/// Passes over the vertex lines of a text, and keeps none.
 pub(crate) fn pass_vertices(
     lines: &mut PlacedLines<'_>,
     vertices: u32,

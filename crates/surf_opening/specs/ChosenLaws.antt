@@ -38,7 +38,7 @@ TrimmedCutsAreChosen =
     (cut_count mesh cut ≤ 2) ⊎ ((v : ℕ) → v < mesh.vertices → degree_in mesh cut v ≢ 1) →
     IsChosenCut mesh tree cotree true cut
 
--- Faces over copies that are opened along it, in order, are the chosen opening.
+-- Faces over copies that are opened along the chosen cut, in order, are the chosen opening.
 abbrev pub OpenedAreChosen : Type 0
 OpenedAreChosen =
     (mesh : Mesh) (tree cotree : Tree) (trim : Bool) (list uncut : List (ℕ × ℕ)) (cut : Chain)

@@ -38,8 +38,8 @@ CutEndsAreMarked =
     IsTrimmedCut mesh tree cotree cut → AreMarked mesh tree cotree marked →
     (e : ℕ) → e < edge_count mesh → IsTrue (cut e) → HasMarkedEnds mesh marked e
 
--- Where the ends of all edges of the trimmed cut are marked, a closed walk that meets no marked
--- vertex is null, whatever χ is.
+-- Where the ends of the left edges are marked and, with each marked vertex, its parent, a closed
+-- walk that meets no marked vertex is null, whatever χ is.
 abbrev pub UnmarkedWalksAreNull : Type 0
 UnmarkedWalksAreNull =
     (mesh : Mesh) (tree cotree : Tree) (marked : ℕ → Bool) (walk : List ℕ) → IsSurface mesh →

@@ -172,7 +172,8 @@ pub(crate) fn surface_at<S: Shelf>(
     surface_of(alloc, soup)
 }
 
-/// The same surface. The room of its text is kept for that of the next file.
+/// The surface in the text of the file of a name, read by way of a lent buffer: its room is kept
+/// for the text of the next file.
 pub(crate) fn surface_through<S: Shelf>(
     alloc: Global,
     shelf: &mut S,

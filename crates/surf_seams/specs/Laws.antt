@@ -21,37 +21,38 @@ use Rattle.surf_seams.specs.Through.{HasCopyOnBorder, IsOpeningThrough}
 
 -- ---- the cut, of any set of edges of any mesh
 
--- there is a cut through the points, and taking back reaches it
+-- There is a cut through the points, in any set of edges, and taking back edge by edge reaches it.
 abbrev pub CutsThroughExist : Type 0
 CutsThroughExist =
     (mesh : Mesh) (full : Chain) (points : ℕ → Bool) →
     (cut : Chain) × IsCutThrough mesh full points cut × IsTakenBackTo mesh points full cut
 
--- and only one
+-- There is no more than one cut through the points in a set of edges.
 abbrev pub CutsThroughAreOne : Type 0
 CutsThroughAreOne =
     (mesh : Mesh) (full : Chain) (points : ℕ → Bool) (cut other : Chain) → IsCutThrough mesh full points cut →
     IsCutThrough mesh full points other → SameEdges mesh cut other
 
--- taking back, in any order, until nothing more can be taken back reaches it
+-- Taking back, in any order, until nothing more can be taken back reaches the cut through the
+-- points.
 abbrev pub TakenBackAreThrough : Type 0
 TakenBackAreThrough =
     (mesh : Mesh) (full : Chain) (points : ℕ → Bool) (cut : Chain) → IsTakenBackTo mesh points full cut →
     HasEndsIn mesh points cut → IsCutThrough mesh full points cut
 
--- and takes none of its edges on the way
+-- Taking back takes no edge of the cut through the points.
 abbrev pub TakingBackKeeps : Type 0
 TakingBackKeeps =
     (mesh : Mesh) (full : Chain) (points : ℕ → Bool) (cut some : Chain) → IsCutThrough mesh full points cut →
     IsTakenBackTo mesh points full some → IsWithin mesh cut some
 
--- each step leaves one edge less
+-- Each step of taking back leaves one edge less.
 abbrev pub TakingBackEnds : Type 0
 TakingBackEnds =
     (mesh : Mesh) (points : ℕ → Bool) (cut next : Chain) (e p : ℕ) → IsLooseAt mesh points cut e p →
     SameEdges mesh next (without cut e) → cut_count mesh cut ≡ cut_count mesh next + 1
 
--- a step: the only edge of a vertex that is no point is taken back
+-- To leave out the only edge of a vertex that is no point is a step of taking back.
 abbrev pub TakingBackGoesOn : Type 0
 TakingBackGoesOn =
     (mesh : Mesh) (full : Chain) (points : ℕ → Bool) (cut next : Chain) (e p q : ℕ) →
@@ -59,12 +60,13 @@ TakingBackGoesOn =
     p < mesh.vertices → IsFalse (points p) → degree_in mesh cut p ≡ 1 → SameEdges mesh next (without cut e) →
     IsTakenBackTo mesh points full next
 
--- through no vertex it is the largest set without ends, so where χ is below 2 the trimmed cut
+-- The cut through no vertex is the largest set of edges without ends, so where χ is below 2 it is
+-- the trimmed cut.
 abbrev pub EndlessAreThroughNone : Type 0
 EndlessAreThroughNone =
     (mesh : Mesh) (full cut : Chain) → IsLargestEndless mesh full cut ↔ IsCutThrough mesh full (λ v. false) cut
 
--- through more vertices it has more edges
+-- The cut through more vertices has all edges of that through fewer.
 abbrev pub CutsThroughGrow : Type 0
 CutsThroughGrow =
     (mesh : Mesh) (full : Chain) (points more : ℕ → Bool) (cut wider : Chain) →
@@ -73,14 +75,15 @@ CutsThroughGrow =
 
 -- ---- the opening along it
 
--- at first the edges outside the tree of faces are cut
+-- The edges outside the tree of faces are where taking back begins: the full cut.
 abbrev pub FullCutsStart : Type 0
 FullCutsStart =
     (mesh : Mesh) (tree cotree : Tree) (points : ℕ → Bool) (cut : Chain) → AreDivided mesh tree cotree →
     SameEdges mesh cut (λ e. not (cotree_edges mesh cotree e)) →
     IsTakenBackTo mesh points (full_cut mesh tree cotree) cut
 
--- while two edges or more are cut, what is left cut is told by a list of uncut edges that trims the full cut
+-- While taking back leaves two edges or more of the full cut, they are told by a list of uncut
+-- edges that trims the full cut.
 abbrev pub TakenBackAreTrimmed : Type 0
 TakenBackAreTrimmed =
     (mesh : Mesh) (tree cotree : Tree) (list : List (ℕ × ℕ)) (points : ℕ → Bool) (cut : Chain) → IsSurface mesh →
@@ -88,8 +91,8 @@ TakenBackAreTrimmed =
     IsTakenBackTo mesh points (full_cut mesh tree cotree) cut → 2 ≤ cut_count mesh cut →
     (uncut : List (ℕ × ℕ)) × IsTrimmed (Side mesh) list uncut × TellsCut mesh uncut cut
 
--- opened along the cut through the points, where that has two edges or more, a surface is a disc with every face
--- once
+-- Opened along the cut through the points, where that has two edges or more, a surface is a disc
+-- with every face once.
 abbrev pub OpenedThroughAreOpenings : Type 0
 OpenedThroughAreOpenings =
     (mesh : Mesh) (tree cotree : Tree) (points : ℕ → Bool) (cut : Chain) (origins : List ℕ)
@@ -99,21 +102,22 @@ OpenedThroughAreOpenings =
 
 -- ---- how much is cut
 
--- where χ is below 2, the cut has two edges or more
+-- Where χ is below 2, the cut through the points has two edges or more.
 abbrev pub CutsThroughAreLong : Type 0
 CutsThroughAreLong =
     (mesh : Mesh) (tree cotree : Tree) (points : ℕ → Bool) (cut : Chain) → IsSurface mesh →
     AreDivided mesh tree cotree → mesh.vertices + face_count mesh < edge_count mesh + 2 →
     IsCutThrough mesh (full_cut mesh tree cotree) points cut → 2 ≤ cut_count mesh cut
 
--- through two vertices or more, it has an edge
+-- The cut through two points or more has an edge.
 abbrev pub TwoPointsAreCut : Type 0
 TwoPointsAreCut =
     (mesh : Mesh) (tree cotree : Tree) (points : ℕ → Bool) (cut : Chain) (u v : ℕ) → IsSurface mesh →
     AreDivided mesh tree cotree → IsCutThrough mesh (full_cut mesh tree cotree) points cut → u < mesh.vertices →
     v < mesh.vertices → IsTrue (points u) → IsTrue (points v) → u ≢ v → 1 ≤ cut_count mesh cut
 
--- and two or more, where no edge of the full cut joins two of them
+-- Where the full cut has no edge between some two of the points, the cut through the points has two
+-- edges or more.
 abbrev pub PointsApartAreLong : Type 0
 PointsApartAreLong =
     (mesh : Mesh) (tree cotree : Tree) (points : ℕ → Bool) (cut : Chain) (u v : ℕ) → IsSurface mesh →
@@ -122,7 +126,7 @@ PointsApartAreLong =
     ((e : ℕ) → e < edge_count mesh → IsTrue (full_cut mesh tree cotree e) → IsTrue (touches u (ends mesh e)) →
     IsTrue (touches v (ends mesh e)) → ⊥) → 2 ≤ cut_count mesh cut
 
--- through three vertices or more, it has two edges or more
+-- The cut through three points or more has two edges or more.
 abbrev pub ThreePointsAreLong : Type 0
 ThreePointsAreLong =
     (mesh : Mesh) (tree cotree : Tree) (points : ℕ → Bool) (cut : Chain) (u v w : ℕ) → IsSurface mesh →
@@ -130,7 +134,7 @@ ThreePointsAreLong =
     v < mesh.vertices → w < mesh.vertices → IsTrue (points u) → IsTrue (points v) → IsTrue (points w) → u ≢ v →
     u ≢ w → v ≢ w → 2 ≤ cut_count mesh cut
 
--- where χ is 2, it has no edge through one vertex or none
+-- Where χ is 2, the cut through one point or none has no edge.
 abbrev pub OnePointIsNotCut : Type 0
 OnePointIsNotCut =
     (mesh : Mesh) (tree cotree : Tree) (points : ℕ → Bool) (cut : Chain) → IsSurface mesh →
@@ -139,7 +143,8 @@ OnePointIsNotCut =
     ((u v : ℕ) → u < mesh.vertices → v < mesh.vertices → IsTrue (points u) → IsTrue (points v) → u ≡ v) →
     cut_count mesh cut ≡ 0
 
--- and no more than one through two that an edge of the full cut joins
+-- Where χ is 2, the cut through two points that an edge of the full cut joins has no more than one
+-- edge.
 abbrev pub JoinedPointsAreShort : Type 0
 JoinedPointsAreShort =
     (mesh : Mesh) (tree cotree : Tree) (points : ℕ → Bool) (cut : Chain) (u v l : ℕ) → IsSurface mesh →
@@ -149,20 +154,20 @@ JoinedPointsAreShort =
     IsTrue (full_cut mesh tree cotree l) → IsTrue (touches u (ends mesh l)) → IsTrue (touches v (ends mesh l)) →
     u ≢ v → cut_count mesh cut ≤ 1
 
--- the cut is in one piece
+-- The cut through the points is in one piece.
 abbrev pub CutsThroughAreConnected : Type 0
 CutsThroughAreConnected =
     (mesh : Mesh) (tree cotree : Tree) (points : ℕ → Bool) (cut : Chain) → IsSurface mesh →
     AreDivided mesh tree cotree → IsCutThrough mesh (full_cut mesh tree cotree) points cut → IsInOnePiece mesh cut
 
--- where it has an edge, as where χ is below 2, each point is on it
+-- Where the cut through the points has an edge, as where χ is below 2, each point is on it.
 abbrev pub PointsAreOnCut : Type 0
 PointsAreOnCut =
     (mesh : Mesh) (tree cotree : Tree) (points : ℕ → Bool) (cut : Chain) (v : ℕ) → IsSurface mesh →
     AreDivided mesh tree cotree → IsCutThrough mesh (full_cut mesh tree cotree) points cut →
     1 ≤ cut_count mesh cut → v < mesh.vertices → IsTrue (points v) → IsOnCut mesh cut v
 
--- where χ is 2, it is the union of the ways in the tree between the points
+-- Where χ is 2, the cut through the points is the union of the ways in the tree between the points.
 abbrev pub CutsThroughAreWays : Type 0
 CutsThroughAreWays =
     (mesh : Mesh) (tree cotree : Tree) (points : ℕ → Bool) (cut : Chain) → IsSurface mesh →
@@ -170,7 +175,7 @@ CutsThroughAreWays =
     IsCutThrough mesh (full_cut mesh tree cotree) points cut →
     (e : ℕ) → e < edge_count mesh → IsTrue (cut e) ↔ IsOnWay mesh tree points e
 
--- so each point has a copy on the border of the opening
+-- Each point has a copy on the border of the opening through the points.
 abbrev pub PointsAreOnBorder : Type 0
 PointsAreOnBorder =
     (mesh : Mesh) (tree cotree : Tree) (points : ℕ → Bool) (origins : List ℕ) (faces : List (List ℕ)) (v : ℕ) →
@@ -179,14 +184,15 @@ PointsAreOnBorder =
 
 -- ---- the opening with its copies in order
 
--- it is an opening: a disc with every face once
+-- The opening through the points, with its copies in order, is a disc with every face once.
 abbrev pub OpeningsThroughAreOpenings : Type 0
 OpeningsThroughAreOpenings =
     (mesh : Mesh) (tree cotree : Tree) (points : ℕ → Bool) (origins : List ℕ) (faces : List (List ℕ)) →
     IsSurface mesh → AreDivided mesh tree cotree → IsOpeningThrough mesh tree cotree points origins faces →
     IsOpening mesh origins faces
 
--- where the cut has two edges or more, there is one
+-- Where the cut through the points has two edges or more, there is an opening along it with its
+-- copies in order.
 abbrev pub OpeningsThroughExist : Type 0
 OpeningsThroughExist =
     (mesh : Mesh) (tree cotree : Tree) (points : ℕ → Bool) (cut : Chain) → IsSurface mesh →
@@ -194,7 +200,7 @@ OpeningsThroughExist =
     2 ≤ cut_count mesh cut →
     (origins : List ℕ) × (faces : List (List ℕ)) × IsOpeningThrough mesh tree cotree points origins faces
 
--- and only one
+-- There is no more than one opening through the points with its copies in order.
 abbrev pub OpeningsThroughAreOne : Type 0
 OpeningsThroughAreOne =
     (mesh : Mesh) (tree cotree : Tree) (points : ℕ → Bool) (origins others : List ℕ)
@@ -202,8 +208,8 @@ OpeningsThroughAreOne =
     IsOpeningThrough mesh tree cotree points origins faces →
     IsOpeningThrough mesh tree cotree points others other_faces → (origins ≡ others) × (faces ≡ other_faces)
 
--- faces over copies that are opened along the uncut edges of a list, in order, are that opening where the list tells
--- what is left by taking back to the end
+-- Let a list of uncut edges tell what taking back to the end leaves of the full cut, two edges or
+-- more. Faces over copies that are opened along it, in order, are the opening through the points.
 abbrev pub OpenedAreThrough : Type 0
 OpenedAreThrough =
     (mesh : Mesh) (tree cotree : Tree) (points : ℕ → Bool) (list uncut : List (ℕ × ℕ)) (cut : Chain)
@@ -213,7 +219,7 @@ OpenedAreThrough =
     2 ≤ cut_count mesh cut → IsOpenedBy mesh (Uncut uncut) origins faces → AreInOrder mesh origins faces →
     IsOpeningThrough mesh tree cotree points origins faces
 
--- at a base it is one, whichever trees show it
+-- The opening through the points at a base is one, whichever chosen trees show it.
 abbrev pub OpeningsThroughAtAreOne : Type 0
 OpeningsThroughAtAreOne =
     (mesh : Mesh) (lengths : List ℕ) (base : ℕ) (a b : Trees) (points : ℕ → Bool) (origins others : List ℕ)

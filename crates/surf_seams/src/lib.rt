@@ -1,7 +1,7 @@
-//! Cuts through given vertices, as laws.
+//! Cuts through given vertices, the points, as laws.
 //!
-//! Of the full cut, which has all edges but those of the tree of faces, the cut through given
-//! vertices, the points, is the largest set of edges in which no vertex but a point has exactly one
+//! Of the full cut, which has all edges but those of the tree of faces, the cut through the points
+//! is the largest set of edges in which no vertex but a point has exactly one
 //! (`IsCutThrough`, specs/Through.antt). Through no vertex it is the trimmed cut, where χ is below 2.
 //!
 //! - There is just one, and it is what is left when edges are taken back one by one, each the only

@@ -67,7 +67,7 @@ fn loop_walk(
     Ok(Walk::from_vertices(list))
 }
 
-/// As many walks as given, each of no vertices.
+/// A list of walks without vertices, of a given length.
 pub fn no_walks(alloc: Global, count: usize) -> Result<Vec<Walk>, NoMemory>
     ensures none { IfOk result (λ walks. walks.items ≡ replicate count []) }
 {

@@ -22,7 +22,7 @@ pub enum CopyFault {
     /// This copy line isn't `# copy i from v`, with its own place from 0 as `i` and a number of 32
     /// bits as `v`.
     CopyForm { line: u32 },
-    /// So many copy lines there are, another number than that of the copies.
+    /// The number of copy lines, where it isn't that of the copies.
     CopyCount { have: u32 },
     /// There was no memory.
     Memory,
@@ -177,7 +177,7 @@ fn read_plain(line: &[u8], place: u64) -> Option<VertexId>
     origin_at(place, copy, vertex)
 }
 
-// The same by the words of the line.
+// The origin that a copy line names, by the words of the line.
 fn read_words(line: &[u8], place: u64) -> Option<VertexId>
     ensures origin { result ≡ origin_of place (words_of line.now) }
 {

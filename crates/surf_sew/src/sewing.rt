@@ -21,7 +21,7 @@ fn first_without(first: &[u32], copies: u32) -> Option<usize>
     first.iter().position(|c| *c == copies)
 }
 
-// The same, or how many vertices are listed.
+// The first vertex without a copy, or how many vertices are listed.
 fn first_gap(first: &[u32], copies: u32) -> usize
     ensures gap { result ≡ position_or_len (λ c. c == copies) first.now }
 {

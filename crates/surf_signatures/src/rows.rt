@@ -10,7 +10,7 @@ pub(crate) fn words_of(width: u32) -> usize
     (width as usize + 63) / 64
 }
 
-/// So many words of a table from a place on.
+/// The words of a table from a place on, a given number of them.
 pub(crate) fn words_at(table: &[u64], start: usize, words: usize) -> &[u64]
     requires room { start + words ≤ length table.now }
     ensures words { result.now ≡ take words (drop start table.now) }

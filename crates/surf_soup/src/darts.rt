@@ -36,7 +36,7 @@ impl<'t> Darts<'t> {
         ensures tables { AreDartTables self.now.mesh self.now.mate }
         ensures met { AllMet self.now.mesh }
     {
-        // (what a type keeps is known where one of its fields is used)
+        // The use of a field makes the invariant of the type known.
         let _ = self.mate.len();
     }
 

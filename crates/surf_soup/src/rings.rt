@@ -268,7 +268,7 @@ pub fn find_pinch(
     find_pinch_by(alloc, soup, &pairing.mate, &pairing.face_of, first)
 }
 
-/// The same by the mates and the faces of sides alone.
+/// The least pinch, as [`find_pinch`] finds it, by the mates and the faces of sides alone.
 pub fn find_pinch_by(
     alloc: Global,
     soup: &Soup,

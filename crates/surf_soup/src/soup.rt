@@ -74,7 +74,7 @@ impl Soup {
         ensures vertices { self.now.vertices < 2 ^ 32 }
         ensures faces { 3 * length self.now.faces < 2 ^ 30 }
     {
-        // (what a type keeps is known where one of its fields is used)
+        // The use of a field makes the invariant of the type known.
         let _vertices = self.vertices;
     }
 

@@ -234,8 +234,9 @@ pub record IsFirstAt (mesh : Mesh) (lengths : List ℕ) (trees : ℕ → Trees) 
   pub base : first.base ≡ place.1
   pub heads : (others : List Loop) × (loops_at mesh lengths place.1 (trees place.1) ≡ first ∷ others)
 
--- The first loop that is found and isn't null has the length and the base of the first candidate,
--- which is the first loop at that base.
+-- Of the loops at the vertices of a set that every closed walk meets which isn't null, let one that
+-- isn't null come first by length and least base. Then the first candidate has its length and its
+-- least base, and is the first of the loops chosen at that base.
 abbrev pub FirstIsAtLeastBase : Type 0
 FirstIsAtLeastBase =
     (mesh : Mesh) (lengths : List ℕ) (trees : ℕ → Trees) (searched : ℕ → Tree) (set : ℕ → Bool) (z e : ℕ) (first : Loop)

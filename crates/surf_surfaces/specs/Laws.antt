@@ -28,14 +28,15 @@ EdgesAreDetermined =
     (mesh : Mesh) (pairs : List (ℕ × ℕ)) → AllPairs (λ p q. pair_lt p q ≡ true) pairs →
     ((p : ℕ × ℕ) → Contains pairs p ↔ ((f : ℕ) × HasEdge mesh f p)) → pairs ≡ edges mesh
 
--- Edge numbers and edges are one to one.
+-- Edges and their numbers are one to one.
 pub record EdgesAreNumbered (mesh : Mesh) : Type 0 where
   pub number_of_ends : (e : ℕ) → e < edge_count mesh → edge_number mesh (ends mesh e) ≡ e
   pub number_below : (s : ℕ × ℕ) → Contains (edges mesh) (pair_of s) → edge_number mesh s < edge_count mesh
   pub ends_of_number : (s : ℕ × ℕ) → Contains (edges mesh) (pair_of s) →
       ends mesh (edge_number mesh s) ≡ pair_of s
 
--- The faces of a pair are strictly in order, and are those that have it.
+-- The faces that are listed for a pair are strictly in order, and are exactly those that have it as
+-- an edge.
 pub record FacesAreListed (mesh : Mesh) (p : ℕ × ℕ) : Type 0 where
   pub in_order : AllPairs (λ f g. f < g) (faces_with mesh p)
   pub exactly : (f : ℕ) → Contains (faces_with mesh p) f ↔ HasEdge mesh f p
@@ -61,7 +62,7 @@ abbrev pub CornersHaveTwoSides : Type 0
 CornersHaveTwoSides = (n v : ℕ) (face : List ℕ) → IsFace n face → Contains face v →
     count_by (touches v) (sides face) ≡ 2
 
--- A face has two edges at each corner, and none at another vertex.
+-- A face of a surface has two edges at each of its corners, and none at another vertex.
 pub record FaceMeetsVertices (mesh : Mesh) : Type 0 where
   pub corner : (v f : ℕ) → HasCorner mesh f v →
       count_below (edge_count mesh) (λ e. borders mesh f e && touches v (ends mesh e)) ≡ 2
@@ -91,7 +92,7 @@ BoundariesAreEven =
 abbrev pub SizesAreTwiceEdges : Type 0
 SizesAreTwiceEdges = (mesh : Mesh) → IsSurface mesh → sum_by length mesh.faces ≡ 2 * edge_count mesh
 
--- As many edges as corners of faces are at each vertex.
+-- Each vertex has as many edges as faces have corners at it.
 abbrev pub EdgesAreAsManyAsCorners : Type 0
 EdgesAreAsManyAsCorners =
     (mesh : Mesh) → IsSurface mesh → (v : ℕ) → count_below (edge_count mesh) (λ e. touches v (ends mesh e))

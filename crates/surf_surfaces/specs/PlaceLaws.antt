@@ -10,9 +10,10 @@ use Rattle.surf_surfaces.specs.Places.{AreNoLonger, AreNoLongerInOrder, lengths_
 use Rattle.surf_surfaces.specs.Places.{IsLeastBasisInOrder, IsShortSum, IsShortestOf, IsShortestNotNull}
 use Rattle.surf_surfaces.specs.Places.{IsShortestNotNullAt, MeasureShortest}
 
--- Place by place no longer, for lists of walks: in order; each walk of the other list has one that
--- is no longer; the n shortest, and the total of as many, are no more; a bound on as many bounds
--- it.
+-- Walks are no longer than others, counted up to each length, exactly where they are so in order,
+-- place by place. Then each of the others has a walk that is no longer, and the n shortest are in
+-- total no longer than the n shortest of the others. Where there are as many, they are so in total,
+-- and a bound on the others bounds them.
 pub record NoLongerLaw (mesh : Mesh) (lengths : List ℕ) (walks others : List (List ℕ)) : Type 0 where
   pub in_order : AreNoLonger mesh lengths walks others ↔ AreNoLongerInOrder mesh lengths walks others
   -- each of the others has a walk that is no longer

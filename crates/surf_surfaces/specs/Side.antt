@@ -44,7 +44,7 @@ pub record AreMates (mesh : Mesh) (f k g j : ℕ) : Type 0 where
   pub is_place : j < length (face_at mesh g)
   pub same_edge : side_pair (face_at mesh f) k ≡ side_pair (face_at mesh g) j
 
--- Each side has one mate.
+-- Each side of a surface has one mate: the side of another face that is the same edge.
 pub record SidesHaveMates (mesh : Mesh) : Type 0 where
   pub some : (f k : ℕ) → f < face_count mesh → k < length (face_at mesh f) →
       (g : ℕ) × (j : ℕ) × AreMates mesh f k g j

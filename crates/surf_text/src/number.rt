@@ -56,7 +56,8 @@ fn few_digits(bytes: &[u8], most: usize) -> (u32, usize)
     (number, most)
 }
 
-// The same of the first eight bytes, or of all where there are fewer.
+// The number that the first digits of the first eight bytes are, or of all bytes where there are
+// fewer, and how many digits there are.
 //
 // Where there are eight, no end is looked for: the compiler writes a loop over so many bytes as a
 // chain.

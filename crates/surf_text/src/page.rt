@@ -180,7 +180,7 @@ impl Page {
     pub fn law_of_page(&self)
         ensures fits { length self.now.bytes ≤ self.now.most }
     {
-        // (what a type keeps is known where one of its fields is used)
+        // The use of a field makes the invariant of the type known.
         let _ = &self.bytes;
     }
 

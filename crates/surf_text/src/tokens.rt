@@ -35,7 +35,7 @@ impl<'a> Tokens<'a> {
         }
     }
 
-    /// The same, with `#` as a byte like others.
+    /// A walk over all tokens of a line, with `#` as a byte like others.
     pub fn between_blanks(line: &'a [u8]) -> Tokens<'a>
         ensures tokens { result ≡ walk_between_blanks line.now }
     {

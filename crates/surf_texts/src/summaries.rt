@@ -6,7 +6,7 @@ use std::alloc::{AllocError, Global};
 use surf_check::Kind;
 use surf_mesh::Surface;
 
-// So many vertices, edges and faces.
+// The lines that say how many vertices, edges and faces there are.
 fn count_lines(alloc: Global, vertices: u32, edges: u32, faces: u32) -> Result<String, AllocError>
     ensures { IfOk result (λ text. string_bytes text ≡ counts_text vertices edges faces) }
 {
@@ -20,7 +20,7 @@ pub fn counts_text(alloc: Global, mesh: &Surface) -> Result<String, AllocError>
     count_lines(alloc, mesh.vertices(), mesh.edges(), mesh.faces())
 }
 
-/// The same of a surface of which only the kind is kept.
+/// How many vertices, edges and faces a surface has of which only the kind is kept.
 pub fn kind_counts_text(alloc: Global, kind: &Kind) -> Result<String, AllocError>
     ensures { IfOk result (λ text. string_bytes text ≡ mesh_counts kind.now) }
 {

@@ -76,7 +76,7 @@ pub(crate) fn edge_at(mesh: &HalfMesh, p: VertexId, v: VertexId) -> Option<EdgeI
     mesh.find_edge(p, v)
 }
 
-/// The same, as `edge_up` tells it.
+/// The edge from a vertex up to its parent, if there is one.
 pub(crate) fn edge_up_at(mesh: &HalfMesh, p: VertexId, v: VertexId) -> Option<EdgeId>
     requires vertex { v < mesh.now.vertices }
     ensures edge { IsEdgeUp mesh.now p v result }

@@ -45,7 +45,8 @@ ValidBasesHaveShortest =
     IsValidBasis mesh lengths cert → mesh.vertices + face_count mesh < edge_count mesh + 2 →
     (walk : List ℕ) × IsShortestOf mesh lengths cert.cycles walk × IsShortestNonseparating mesh lengths walk
 
--- The least of their lengths is that of each shortest nonseparating cycle.
+-- The least of the lengths of the cycles of a valid certificate is that of each shortest
+-- nonseparating cycle.
 abbrev pub ValidBasesMeasureShortest : Type 0
 ValidBasesMeasureShortest =
     (mesh : Mesh) (lengths : List ℕ) (cert : BasisCert) → IsSurface mesh → ArePositive mesh lengths →

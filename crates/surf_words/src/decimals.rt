@@ -23,7 +23,7 @@ impl Model for Decimals {
 }
 
 impl Decimals {
-    /// So many decimals, if they are at most 9.
+    /// A number of decimals, if it is at most 9.
     pub fn new(count: u32) -> Option<Decimals>
         ensures few { result ≡ few_decimals count }
     {
