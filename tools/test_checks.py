@@ -2,8 +2,12 @@
 """Tests of the other checks beside the gate: python3 tools/test_checks.py"""
 
 import pathlib
+import shutil
+import subprocess
 import sys
 import tempfile
+import threading
+import time
 import unittest
 
 sys.path.insert(0, str(pathlib.Path(__file__).resolve().parent))
@@ -13,6 +17,7 @@ import check_bases  # noqa: E402
 import check_documents  # noqa: E402
 import check_sessions  # noqa: E402
 import check_walks  # noqa: E402
+import checks  # noqa: E402
 import crate_graph  # noqa: E402
 import hostile  # noqa: E402
 import laws  # noqa: E402
@@ -105,10 +110,10 @@ class Documents(unittest.TestCase):
             return list(check_documents.faults_of(check_documents.documents(pathlib.Path(room))))
 
     def test_one_word_too_many(self):
-        most = "word\n" * 26_000
+        most = "word\n" * check_documents.MOST_WORDS
         for name in ("README.md", "docs/page.md", "docs/decisions/page.md"):
             self.assertEqual(self.faults(most, name), [])
-            self.assertEqual(self.faults(f"{most}more\n", name), ["the documents have 26001 words, and 26000 are allowed"])
+            self.assertEqual(self.faults(f"{most}more\n", name), ["the documents have 30001 words, and 30000 are allowed"])
         self.assertEqual(self.faults(f"{most}more\n", "docs/laws.md"), [])
 
     def test_a_line_too_long(self):
@@ -214,6 +219,153 @@ class PlainMethod(unittest.TestCase):
         for each in (faces, turned):
             count = 1 + max(max(f) for f in each)
             self.assertEqual(count - len(edges_of(each)) + len(each), -1)
+
+
+class Runner(unittest.TestCase):
+    """The runner of the checks, over scripts and over checks that only wait."""
+
+    TOP = pathlib.Path(__file__).resolve().parent.parent
+
+    def ended(self, script):
+        """What the runner tells of a script."""
+        with tempfile.TemporaryDirectory() as room:
+            pathlib.Path(room, "it.py").write_text(script)
+            return checks.ran(checks.Check("it.py a 'b c'"), pathlib.Path(room))
+
+    def test_output_is_kept_whole(self):
+        script = "import sys\nfor k in range(9999):\n    print(k)\n    print(-k, file=sys.stderr)\nprint(sys.argv[1:])\n"
+        one = self.ended(script)
+        due = "".join(f"{k}\n{-k}\n" for k in range(9999))
+        self.assertEqual((one.status, one.output), (0, f"{due}['a', 'b c']\n"))
+        self.assertRegex(checks.shown(one), r"^== it.py a 'b c': [0-9.]+ s\n0\n0\n1\n")
+
+    def test_bad_statuses(self):
+        for script, status in (("import sys; sys.exit(7)", 7), ("1 / 0", 1), ("import os; os.kill(os.getpid(), 9)", 137),
+                               ("import os; os.kill(os.getpid(), 15)", 143)):
+            one = self.ended(script)
+            self.assertEqual(one.status, status, script)
+            self.assertIn(f", status {status}\n", checks.shown(one))
+
+    def told(self, rows, jobs, run):
+        return [one.check.command for one in checks.in_order(rows, checks.ends(rows, jobs, run))]
+
+    def test_order_and_first_bad_status(self):
+        """The first check ends last, and the first bad one after a later bad one."""
+        rows = [checks.Check(name) for name in ("a", "b", "c", "d")]
+        statuses, gate = {"a": 0, "b": 3, "c": 0, "d": 4}, threading.Event()
+
+        def run(check):
+            if check.command == "d":
+                gate.set()
+            else:
+                self.assertTrue(gate.wait(10))
+                time.sleep(0.05 if check.command == "a" else 0)
+            return checks.Ended(check, statuses[check.command], "", 0)
+
+        all_ended = list(checks.in_order(rows, checks.ends(rows, 4, run)))
+        self.assertEqual([one.check.command for one in all_ended], ["a", "b", "c", "d"])
+        self.assertEqual(checks.first_bad(all_ended).status, 3)
+        self.assertIsNone(checks.first_bad(all_ended[:1]))
+
+    def test_as_many_at_once_as_are_allowed(self):
+        """Three checks that wait for one another end only if they run at once."""
+        rows, meeting = [checks.Check(name) for name in "abcdef"], threading.Barrier(3)
+        now, most, lock = 0, [0], threading.Lock()
+
+        def run(check):
+            nonlocal now
+            with lock:
+                now += 1
+                most.append(now)
+            meeting.wait(10)
+            with lock:
+                now -= 1
+            return checks.Ended(check, 0, "", 0)
+
+        self.assertEqual(self.told(rows, 3, run), list("abcdef"))
+        self.assertEqual(max(most), 3)
+
+    def test_what_must_not_run_side_by_side(self):
+        rows = [checks.Check("a"), checks.Check("b", checks.ALONE), checks.Check("c", "group"), checks.Check("d", "group"),
+                checks.Check("e"), checks.Check("f", checks.ALONE), checks.Check("g", "other"), checks.Check("h", "group")]
+        running, seen, lock = [], [], threading.Lock()
+
+        def run(check):
+            with lock:
+                running.append(check.command)
+                seen.append(set(running))
+            time.sleep(0.03)
+            with lock:
+                running.remove(check.command)
+            return checks.Ended(check, 0, "", 0)
+
+        self.assertEqual(self.told(rows, 8, run), list("abcdefgh"))
+        for together in seen:
+            self.assertFalse({"c", "d"} <= together)
+            for name in "bf":
+                self.assertTrue(name not in together or together == {name})
+        self.assertIn({"g", "h"}, seen)
+        for early, late in (("a", "b"), ("b", "c"), ("e", "f"), ("f", "g")):
+            self.assertLess(seen.index(next(s for s in seen if early in s)), seen.index(next(s for s in seen if late in s)))
+
+    def test_one_after_the_other(self):
+        rows = [checks.Check(name) for name in "abc"]
+        self.assertEqual(self.told(rows, 1, lambda check: checks.Ended(check, 0, "", 0)), ["a", "b", "c"])
+
+    def test_the_table_has_every_check_once(self):
+        listed = [check.command for check in checks.CHECKS]
+        self.assertEqual(len(listed), len(set(listed)))
+        scripts = {command.split()[0] for command in listed}
+        there = {str(path.relative_to(self.TOP)) for pattern in ("*/check_*.py", "tools/test_*.py", "release/test_*.py", "*/check.py")
+                 for path in self.TOP.glob(pattern)}
+        self.assertEqual(there - scripts, set())
+        self.assertEqual([name for name in scripts if not (self.TOP / name).is_file()], [])
+
+
+class Gate(unittest.TestCase):
+    """`.ci/run`, with an `rt` and a `python3` that end as they are told."""
+
+    def setUp(self):
+        room = tempfile.TemporaryDirectory()
+        self.addCleanup(room.cleanup)
+        self.top = pathlib.Path(room.name)
+        (self.top / ".ci").mkdir()
+        (self.top / "bin").mkdir()
+        shutil.copy(pathlib.Path(__file__).resolve().parent.parent / ".ci/run", self.top / ".ci/run")
+        (self.top / "bin/dirname").symlink_to(shutil.which("dirname"))
+
+    def tool(self, name, status):
+        path = self.top / "bin" / name
+        path.write_text(f'#!/bin/sh\necho {name} "$@"\nexit {status}\n')
+        path.chmod(0o755)
+
+    def ran(self, gate, checked, program=True):
+        """The status of `.ci/run`, and the lines that it printed."""
+        self.tool("rt", gate)
+        if checked is not None:
+            self.tool("python3", checked)
+        if program:
+            (self.top / "crates/surf/out").mkdir(parents=True)
+            self.tool("../crates/surf/out/surf", 0)
+        done = subprocess.run([shutil.which("bash"), self.top / ".ci/run"], env={"PATH": str(self.top / "bin")}, capture_output=True, text=True)
+        return done.returncode, done.stdout.splitlines()
+
+    def test_a_good_gate(self):
+        self.assertEqual(self.ran(0, 0), (0, ["rt ci", "python3 tools/checks.py"]))
+
+    def test_a_bad_check(self):
+        self.assertEqual(self.ran(0, 9), (9, ["rt ci", "python3 tools/checks.py"]))
+
+    def test_a_bad_gate(self):
+        self.assertEqual(self.ran(3, 9), (3, ["rt ci", "python3 tools/checks.py --bad-gate"]))
+
+    def test_a_missing_program(self):
+        status, lines = self.ran(0, 0, program=False)
+        self.assertEqual((status, lines[0], lines[-1]), (1, "rt ci", "python3 tools/checks.py --bad-gate"))
+
+    def test_a_missing_python(self):
+        self.assertEqual(self.ran(0, None)[0], 1)
+        self.assertIn("rt ci", (self.top / ".ci/run").read_text().splitlines())
 
 
 if __name__ == "__main__":
