@@ -15,6 +15,7 @@ said; of other meshes there are a tenth as many. What is random has a fixed seed
 import argparse
 import collections
 import concurrent.futures
+import contextlib
 import os
 import pathlib
 import random
@@ -548,11 +549,17 @@ def limited(pages):
 
 # ---- great texts
 
+MOST_TEXT = 268_435_456
 CUT_HEAVY = "a cut whose six copies of a vertex have lines of 179,000,000 bytes"
 
 
 def great_runs(program, files, room):
-    tally = Tally("great texts: 268,435,456 bytes and one more; 2,000,000 faces; an answer past its limit")
+    return [great_meshes(program, room), great_files(program, files, room)]
+
+
+def great_meshes(program, room):
+    """Meshes at the limits and past them, and an answer past its limit."""
+    tally = Tally("great meshes: 268,435,456 bytes and one more; 2,000,000 faces; an answer past its limit")
     path = room / "great"
     faces = b"OFF\n4 2000000 0\n" + b"0 0 0\n" * 4 + b"3 0 1 2\n" * 1999999
     # Each of the six copies of the first vertex has its line, so the answer passes its limit.
@@ -560,8 +567,8 @@ def great_runs(program, files, room):
     apexes = b"".join(b"3 0 %d %d\n3 1 %d %d\n" % (u, v, v, u) for u, v in ring)
     heavy = b"OFF\n8 12 0\n0 0 " + b"0" * 178999996 + b"\n" + b"0 0 0\n" * 7 + apexes
     trials = [
-        ("268,435,456 spaces", b" " * 268435456, 3, b"mesh text: header 0\n"),
-        ("268,435,457 spaces", b" " * 268435457, 6, b"limit: text\n"),
+        ("268,435,456 spaces", b" " * MOST_TEXT, 3, b"mesh text: header 0\n"),
+        ("268,435,457 spaces", b" " * (MOST_TEXT + 1), 6, b"limit: text\n"),
         ("2,000,000 faces", faces + b"3 0 1 2\n", 4, b"surface: crowded 0 1 0 1 2\n"),
         ("2,000,000 faces, the last of 4 sides", faces + b"4 0 1 2 3\n", 6, b"limit: sides\n"),
         ("1,000,001 vertices", b"OFF\n1000001 1 0\n", 6, b"limit: vertices\n"),
@@ -573,11 +580,52 @@ def great_runs(program, files, room):
         if text is not None:
             path.write_bytes(text)
         file = str(path) if text is not None else "/dev/zero"
-        status, out, line = program.run(["cut", file, "unit", "0", "full"] if name == CUT_HEAVY else ["info", file])
-        wrong = None if (status, out, line) == (wanted, b"", wanted_line) else f"status {status}, {line[:60]!r}"
-        tally.add(name, status, wrong)
+        got = program.run(["cut", file, "unit", "0", "full"] if name == CUT_HEAVY else ["info", file])
+        add_due(tally, name, got, (wanted, b"", wanted_line))
     path.unlink()
-    return [tally]
+    return tally
+
+
+# For each kind of file but a mesh: words with a file `great` of it, and the refusal of a line of zero bytes.
+GREAT_FILES = {
+    "L": (("dist", "M", "great", "0"), 5, b"lengths: form 1\n"),
+    "C": (("check", "M", "unit", "great"), 8, b"certificate text: header 1\n"),
+    "W": (("class", "M", "great"), 13, b"walk 1: form 0\n"),
+    "W2": (("same", "M", "W", "great"), 13, b"walk 2: form 0\n"),
+    "P": (("cut", "M", "unit", "0", "through", "great"), 15, b"vertices: form 0\n"),
+}
+
+
+def great_files(program, files, room):
+    """Each file of each command, one byte past the limit and endless, and each kind at the limit."""
+    tally = Tally("great files: each of each command has 268,435,457 bytes; each kind has 268,435,456, and no end")
+    path = room / "great"
+    great = {**files, "great": path}
+    refused = (6, b"", b"limit: text\n")
+    with sparse(path, MOST_TEXT + 1):
+        for command in COMMANDS:
+            for kind in command.kinds():
+                add_due(tally, f"{command.name}, {kind}", program.run(command.with_files({**files, kind: path})), refused)
+    for kind, (words, status, line) in GREAT_FILES.items():
+        with sparse(path, MOST_TEXT):
+            add_due(tally, f"{kind} at the limit", program.run(Command(*words).with_files(great)), (status, b"", line))
+        endless = {**files, "great": "/dev/zero"}
+        add_due(tally, f"an endless {kind}", program.run(Command(*words).with_files(endless)), refused)
+    return tally
+
+
+@contextlib.contextmanager
+def sparse(path, size):
+    """A file of so many zero bytes, which takes no room."""
+    path.touch()
+    os.truncate(path, size)
+    yield
+    path.unlink()
+
+
+def add_due(tally, what, got, due):
+    """Counts a run, and tells where it isn't the one that is due."""
+    tally.add(what, got[0], None if got == due else f"status {got[0]}, {got[2][:60]!r}")
 
 
 # All trials, in order: those that take a number of copies come last.

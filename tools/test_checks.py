@@ -168,6 +168,37 @@ class Hostile(unittest.TestCase):
         self.assertIsNotNone(hostile.memory_fault(right, 11, b"", b"memory\n", may_fail=False))
 
 
+class Starved:
+    """A program that refuses files past the limit of a text, but for some commands as if memory had run out."""
+
+    def __init__(self, *starved):
+        self.starved = starved
+
+    def run(self, words):
+        sizes = [pathlib.Path(word).stat().st_size for word in words if pathlib.Path(word).is_file()]
+        if "/dev/zero" in words or max(sizes) > 268_435_456:
+            return (11, b"", b"memory\n") if words[0] in self.starved else (6, b"", b"limit: text\n")
+        _, status, line = next(row for row in hostile.GREAT_FILES.values() if row[0][0] == words[0])
+        return status, b"", line
+
+
+class GreatFiles(unittest.TestCase):
+    def faults(self, *starved):
+        with tempfile.TemporaryDirectory() as name:
+            files = {kind: pathlib.Path(name, kind) for kind in hostile.SAMPLES}
+            for path in files.values():
+                path.touch()
+            return hostile.great_files(Starved(*starved), files, pathlib.Path(name)).faults
+
+    def test_every_file_is_tried(self):
+        self.assertEqual(self.faults(), [])
+        for command, kind in (("dist", "L"), ("check", "C"), ("class", "W"), ("same", "W2"), ("cut", "P"), ("sew", "O"), ("confirm", "E")):
+            faults = self.faults(command)
+            self.assertTrue(any(fault.startswith(command) and f", {kind}:" in fault for fault in faults), faults)
+        for kind, command in (("L", "dist"), ("C", "check"), ("W", "class"), ("W2", "same"), ("P", "cut")):
+            self.assertIn(f"an endless {kind}: status 11, b'memory\\n'", self.faults(command))
+
+
 class Misuses(unittest.TestCase):
     def test_the_error_at_its_line(self):
         said = "src/lib.rt:2:5: error[borrow-e0505]: cannot move out"
