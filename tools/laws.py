@@ -2,10 +2,11 @@
 """Makes docs/laws.md, the page of all laws, from the comments over their statements.
 
     laws.py --write     makes the page anew
-    laws.py --check     ends with 1 where the page is old, or where a law has no comment
+    laws.py --check     ends with 1 where the page is old, where a law has no comment, or where a type of data is named as one
 
-A law is a definition in the `specs/` of a crate that is a clause of a public function without arguments and with an empty
-body. Its comment says in one sentence what it states. Functions that only show examples are left out.
+A law is a definition in the `specs/` of a crate that a clause of a public function without arguments and with an empty
+body states, for all values and under premises that the clause may name before it. Its comment says what it states, and
+can be read alone. Functions that only show examples are left out.
 """
 
 import pathlib
@@ -22,9 +23,14 @@ DEFINITION = re.compile(r"^ *(?:pub )?(?:abbrev|unfoldable|record|data) (?:pub )
 HEAD = """# The laws
 
 Made by `tools/laws.py --write` from the comments over the statements; don't edit it. Each law is a definition in the
-`specs/` of its crate and a clause of a public function with an empty body, so the gate asks for its proof and code cites
-it by a call. [definitions.md](definitions.md) has the words.
+`specs/` of its crate and a clause of a public function with an empty body, so the gate asks for its proof. Code that
+rests on a law calls that function. Proofs mostly don't: they import the lemmas behind the laws, also from the `proofs/`
+of other crates. [definitions.md](definitions.md) has the words.
 """
+# The spaces that laws of any space are stated for, in words.
+SPACES = {"numbers": "sets of numbers, each written as one number", "chains": "chains"}
+# A type that a bound variable or a field has.
+BOUND = re.compile(r"(?:[({]|pub )[\w ]+ : (?:List )?([A-Z][\w-]*)")
 
 
 def law_functions(crate):
@@ -52,6 +58,30 @@ def statements(crate):
     return found
 
 
+def conclusion(clause):
+    """What a clause states: what stands behind its last arrow that no bracket holds."""
+    depth, start = 0, 0
+    for at, sign in enumerate(clause):
+        depth += (sign in "({") - (sign in ")}")
+        if sign == "→" and not depth:
+            start = at + 1
+    return clause[start:].strip()
+
+
+def types_of_data(crate):
+    """The types that bound variables and fields have in the specs of a crate, and in the clauses of its laws."""
+    texts = [path.read_text(encoding="utf-8") for path in (TOP / "crates" / crate / "specs").glob("*.antt")]
+    texts += [text for clauses in law_functions(crate).values() for text in clauses.values()]
+    return {name for text in texts for name in BOUND.findall(text)}
+
+
+def spaces_of(conclusions):
+    """A sentence on the spaces that a law of any space is stated for, or nothing."""
+    words = [word for text in conclusions for word in re.findall(r"[\w-]+", text)]
+    named = [told for space, told in SPACES.items() if space in words]
+    return f" Stated of {', and of '.join(named)}." if named else ""
+
+
 def laws_of(crate):
     """The laws of a crate in the order of its functions: (law, comment, function, clauses)."""
     said = statements(crate)
@@ -60,10 +90,10 @@ def laws_of(crate):
             continue
         grouped = {}
         for clause, text in clauses.items():
-            law = next((word for word in re.findall(r"[\w-]+", text) if word in said), None)
-            grouped.setdefault(law, []).append(clause)
-        for law, names in grouped.items():
-            yield law, said.get(law, ""), function, [name for name in names if name]
+            grouped.setdefault(conclusion(text).split()[0], {})[clause] = conclusion(text)
+        for law, stated in grouped.items():
+            comment = said.get(law, "")
+            yield law, comment and comment + spaces_of(stated.values()), function, [name for name in stated if name]
 
 
 def purpose(crate):
@@ -77,10 +107,12 @@ def page():
     """The page, and what is wrong with the comments, a line each."""
     parts, faults = [HEAD], []
     for crate in sorted(path.name for path in (TOP / "crates").iterdir() if (path / "specs").is_dir()):
-        rows = []
+        rows, data = [], types_of_data(crate)
         for law, comment, function, clauses in laws_of(crate):
-            if not law or not comment:
-                faults.append(f"{crate}: {function}: no comment stands over the law {law or clauses}")
+            if not comment:
+                faults.append(f"{crate}: {function}: no comment stands over the law {law}")
+            if law in data:
+                faults.append(f"{crate}: {function}: {law} is a type of data and no law")
             where = f"`{function}`" + "".join(f", `{clause}`" for clause in clauses)
             rows.append(f"| `{law}` | {comment.replace('|', chr(92) + '|')} | {where} |")
         if rows:

@@ -79,10 +79,10 @@ class WrongBodies(unittest.TestCase):
 class Laws(unittest.TestCase):
     SOURCE = "//! Colours of things. And more.\nuse a;\n\npub fn law_of_red()\n    ensures red { IsRed 1 }\n    ensures dark { IsRed 2 }\n{}\n"
 
-    def page_of(self, spec):
+    def page_of(self, spec, source=SOURCE):
         with tempfile.TemporaryDirectory() as room:
             top = pathlib.Path(room)
-            for folder, name, text in (("src", "lib.rt", self.SOURCE), ("specs", "Red.antt", spec)):
+            for folder, name, text in (("src", "lib.rt", source), ("specs", "Red.antt", spec)):
                 (top / "crates/surf_a" / folder).mkdir(parents=True)
                 (top / "crates/surf_a" / folder / name).write_text(text)
             before, laws.TOP = laws.TOP, top
@@ -99,6 +99,27 @@ class Laws(unittest.TestCase):
 
     def test_a_law_without_a_comment_is_a_fault(self):
         self.assertEqual(len(self.page_of("-- Apart.\n\nabbrev pub IsRed : Type 0\n")[1]), 1)
+
+    def test_the_law_stands_behind_its_premises(self):
+        for clause, law in (("IsRed 1", "IsRed 1"), ("(d : Dye) (f : ℕ → ℕ) → IsDye d → IsRed (λ (k : ℕ → ℕ). k)", "IsRed (λ (k : ℕ → ℕ). k)"),
+                            ("MergeLaw {C = Dye → Dye} is_red", "MergeLaw {C = Dye → Dye} is_red")):
+            self.assertEqual(laws.conclusion(clause), law)
+        spec = "-- a dye\npub record Dye : Type 0 where\n\n-- Dyes are red.\nabbrev pub IsRed : Dye → Type 0\n"
+        text, faults = self.page_of(spec, self.SOURCE.replace("IsRed 1", "(d : Dye) → IsRed d").replace("IsRed 2", "IsRed first"))
+        self.assertIn("| `IsRed` | Dyes are red. | `law_of_red`, `red`, `dark` |", text)
+        self.assertEqual(faults, [])
+
+    def test_a_type_of_data_is_no_law(self):
+        spec = "-- a dye\npub record Dye : Type 0 where\n  pub hue : ℕ\n\n-- Red.\nabbrev pub IsRed : Type 0\nIsRed = (d : Dye) → d ≡ d\n"
+        self.assertEqual(self.page_of(spec, self.SOURCE.replace("IsRed 2", "Dye"))[1], ["surf_a: law_of_red: Dye is a type of data and no law"])
+        lists = spec.replace("(d : Dye)", "(ds es : List Dye)")
+        self.assertEqual(len(self.page_of(lists, self.SOURCE.replace("IsRed 2", "Dye"))[1]), 1)
+
+    def test_the_spaces_that_a_law_is_stated_for(self):
+        spec = "-- Sums.\nabbrev pub IsRed : Type 0\n"
+        source = self.SOURCE.replace("IsRed 1", "IsRed numbers").replace("IsRed 2", "IsRed chains")
+        self.assertIn("| Sums. Stated of sets of numbers, each written as one number, and of chains. |", self.page_of(spec, source)[0])
+        self.assertIn("| Sums. |", self.page_of(spec)[0])
 
 
 class Documents(unittest.TestCase):
