@@ -149,10 +149,11 @@ def program_package(parts: Parts, proved: str, out: pathlib.Path) -> None:
     tree = under_usr(inner)
     common(tree, NAME, parts, proved)
     fields = control(NAME, "science", parts, f"""\
-shortest homology bases and cuts of closed surface meshes
-surfbasis finds shortest systems of loops, shortest homology bases and shortest nonseparating cycles on closed
-surface meshes, and cuts these open into a disc. Every answer and every refusal is proved. In other places the
-program has the name surf, which in Debian is that of a web browser; /usr/lib/{NAME}/bin has it by that name.""",
+shortest homology bases (mod 2) and cuts of closed surface meshes
+surfbasis finds shortest systems of loops, shortest homology bases (mod 2) and shortest nonseparating cycles on closed
+surface meshes, and cuts these open into a disc. Every answer is proved, and every refusal but that of want of memory.
+In other places the program has the name surf, which in Debian is that of a web browser; /usr/lib/{NAME}/bin has it by
+that name.""",
                      Depends=f"libc6 (>= {needed_glibc(parts.built / 'surf')})", Recommends="sse4.2-support",
                      Suggests="python3")
     trees.debian_package(tree, fields, {}, out / f"{NAME}_{parts.version}_amd64.deb", parts.time)
@@ -164,7 +165,8 @@ def library_package(parts: Parts, proved: str, out: pathlib.Path) -> None:
     common(tree, f"lib{NAME}0", parts, proved)
     fields = control(f"lib{NAME}0", "libs", parts, """\
 surfbasis as one function (shared library)
-All that surfbasis does, as one function over bytes in memory. Every answer and every refusal is proved.""",
+All that surfbasis does, as one function over bytes in memory. Every answer is proved, and every refusal but that of
+want of memory.""",
                      Depends=f"libc6 (>= {needed_glibc(parts.built / library)})", Recommends="sse4.2-support",
                      Multi_Arch="same")
     scripts = {"triggers": "activate-noawait ldconfig\n", "shlibs": f"lib{NAME} 0 lib{NAME}0 (>= {parts.version})\n"}

@@ -231,7 +231,7 @@ def counts(specs, top):
 
 def page_text(specs, top):
     run = specs.reached(roots_of(specs, top / "crates/surf_run/src/top.rt"))
-    head = specs.reached([f"surf_surfaces.{name}" for name in HEADLINE])
+    head, loops, theorem = (specs.reached(names) for names in (HEADLINE, HEADLINE[:2], HEADLINE + THEOREM))
     rows = [
         f"| `{command}` | `{key}` | {few} | {lines} | {all_few} | {all_lines} |"
         for command, key, few, lines, all_few, all_lines in counts(specs, top)
@@ -239,7 +239,8 @@ def page_text(specs, top):
     text = TEXT.format(
         rows="\n".join(rows), run=len(run), run_lines=specs.line_count(run), crates=len({key.split(".")[0] for key in run}),
         all=len(specs.definitions), all_lines=specs.line_count(specs.definitions),
-        head=len(head), head_lines=specs.line_count(head),
+        head=len(head), head_lines=specs.line_count(head), loops=len(loops), loops_lines=specs.line_count(loops),
+        theorem=len(theorem), theorem_lines=specs.line_count(theorem),
         names=", ".join(f"`{name.split('.')[-1]}`" for name in HEADLINE),
     )
     whole = (line if line.startswith("|") else textwrap.fill(line, 118, break_long_words=False, break_on_hyphens=False)
@@ -247,13 +248,21 @@ def page_text(specs, top):
     return "\n".join(whole) + "\n"
 
 
-HEADLINE = ["Surface.IsSurface", "Homology.IsLeastLoopSystem", "Homology.IsLeastBasis", "Cycle.IsShortestNonseparating",
-            "Disc.IsDisc", "Disc.IsOpening"]
+HEADLINE = [f"surf_surfaces.{name}" for name in (
+    "Surface.IsSurface", "Homology.IsLeastLoopSystem", "Homology.IsLeastBasis", "Cycle.IsShortestNonseparating",
+    "Disc.IsDisc", "Disc.IsOpening")]
+# What docs/theorem.md names beside these.
+THEOREM = [f"surf_surfaces.{name}" for name in (
+    "Mesh.characteristic", "Homology.IsNull", "Places.IsLeastLoopSystemInOrder", "Places.IsLeastBasisInOrder",
+    "Places.IsShortestNotNull", "Cycle.IsSimpleCycle")]
+THEOREM += [f"surf_classes.{name}" for name in (
+    "Evidence.IsNullEvidence", "Evidence.IsOddEvidence", "Shortest.AreHomologous", "Shortest.IsShortestInClass")]
+THEOREM += ["surf_seams.Through.HasCopyOnBorder"]
 TEXT = """# How many lines a reader has to believe
 
 A proof shows that the program meets its contract. Whether the contract says what you want, you have to read. `tools/reach.py --write` counts here what there is to read, and `tools/reach.py loops` lists the definitions under an answer, with their files.
 
-**The theorem alone**: {names}, with all that they rest on, are {head} definitions of {head_lines} lines. They stand in `surf_surfaces` and `surf_z2`, and [definitions.md](definitions.md) says them in prose.
+**The theorem alone**: {names}, with all that they rest on, are {head} definitions of {head_lines} lines. They stand in `surf_surfaces` and `surf_z2`, and [definitions.md](definitions.md) says them in prose. For loops alone, `IsSurface` and `IsLeastLoopSystem`, they are {loops} of {loops_lines} lines; all that [theorem.md](theorem.md) names are {theorem} of {theorem_lines}.
 
 An **answer** is the theorem, the choice among ties, and how it is written down. The **contract** is all that `run` says of the command: also how words, files and lengths are read, which refusal comes first, and its line.
 

@@ -1,4 +1,4 @@
-"""Proved shortest homology bases, loops and cuts of closed surface meshes.
+"""Proved shortest homology bases (mod 2), loops and cuts of closed surface meshes.
 
 >>> import surfbasis
 >>> surface = surfbasis.Surface.from_file("meshes/eight.off", decimals=6)
