@@ -4,7 +4,8 @@
 Run as a script it makes that static library, crates/surf_c/out/libsurf_c.a, where it isn't there or is older than a
 source. surf_c is proved anew, over the libraries that the gate proved and left: some minutes. Where a gate left none,
 `rt check` proves them first, which takes as long as a gate. Beside the library stand the LLVM module that clang made
-it of, since the page for browsers is made of that, too, and the line which says that it is proved.
+it of, since the page for browsers is made of that, too, the line which says that it is proved, and what the compiler said
+of the functions in C that its proof rests on.
 
 A gate that took the program from an earlier run leaves it without its object file, of which a release links a static
 program. Then that is built again, too, in the same way, and has to give the bytes of the gate's program.
@@ -27,6 +28,7 @@ MADE = CRATE / "out/libsurf_c.a"
 OBJECT = PROGRAM.with_name("surf.o")
 MODULE = CRATE / "out/surf_c.bc"
 VERDICT = CRATE / "out/surf_c.verdict"
+REPORT = CRATE / "out/surf_c.axioms"
 EXPORTED = "surf_call"
 TARGET = "x86_64-unknown-linux-gnu"
 FLAGS = ["-Wl,-z,relro,-z,now", "-Wl,-z,defs", "-Wl,--build-id=sha1", "-Wl,--gc-sections"]
@@ -39,8 +41,8 @@ exec "{clang}" "$@"
 
 
 def is_made() -> bool:
-    """Whether the library, its module and its verdict are there and newer than each source."""
-    made = (MADE, MODULE, VERDICT)
+    """Whether the library and what stands beside it are there and newer than each source."""
+    made = (MADE, MODULE, VERDICT, REPORT)
     return all(path.exists() for path in made) and min(path.stat().st_mtime for path in made) > newest_source(TOP)
 
 
@@ -80,7 +82,7 @@ def build_words(kit: pathlib.Path, name: str, source: str, crates: dict[str, lis
     for library in sorted(below(crates, name, {})):
         words += ["-L", f"dependency={rlib(library).parent}"]
     words += ["--antt-project", kit / "rattle/logic/antt-project.json", "--logic-built", kit / "logic_built"]
-    return [*words, "--backend", "llvm", "--jobs", "2"]
+    return [*words, "--backend", "llvm", "--jobs", "2", "--list-axioms"]
 
 
 def verdict_of(said: str) -> str:
@@ -89,6 +91,11 @@ def verdict_of(said: str) -> str:
     if not verdict.startswith("logic=proved"):
         raise Refused(f"the compiler says no word of a proved crate: {verdict}")
     return verdict
+
+
+def report_of(said: str) -> str:
+    """The compiler's lines on the functions in C that are declared, and on those that a proof rests on."""
+    return "".join(f"{line}\n" for line in said.splitlines() if re.match(r"axioms \w+: |  [\w:]+(   reached)?$", line))
 
 
 def build_object(crates: dict[str, list[str]]) -> None:
@@ -117,8 +124,9 @@ def build(crates: dict[str, list[str]]) -> None:
         if not (room / MODULE.name).is_file():
             raise Refused(f"the compiler handed no module to clang: {verdict}")
         (room / VERDICT.name).write_text(f"{verdict}\n")
+        (room / REPORT.name).write_text(report_of(said))
         MADE.parent.mkdir(exist_ok=True)
-        for path in (MADE, MODULE, VERDICT):
+        for path in (MADE, MODULE, VERDICT, REPORT):
             shutil.copyfile(room / path.name, path)
 
 

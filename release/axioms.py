@@ -1,0 +1,145 @@
+#!/usr/bin/env python3
+"""Which contracts of C functions the proofs of the program and of the library for C rest on: a list in docs/proved.md.
+
+    axioms.py --write    proves both again, over what the gate left, and writes the list: some minutes
+    axioms.py --check    ends with 1 where the list can't be right
+
+The compiler takes the contract of a C function as it is written. Asked by `--list-axioms`, it says which of these contracts
+a proof reached. `--check` proves nothing: each listed function has to be one that the kit declares, and each that the
+program or the library asks for has to be listed for it. The list of the library has to be what the compiler said when
+`libraries.py` made it.
+"""
+
+import pathlib
+import re
+import shutil
+import sys
+import tempfile
+from typing import NamedTuple
+
+import libraries
+from proof import TOP, Refused, kit_folder, ran
+
+sys.path.append(str(TOP / "tools"))
+from crate_graph import read_crates  # noqa: E402
+
+PAGE = TOP / "docs/proved.md"
+BEGIN, END = "## Contracts of C functions\n", "\n## "
+HEAD = """
+The kit declares {count} functions in C, whose contracts the compiler takes as they are written. The proofs rest on these
+{few} of them, and on no other (`release/axioms.py --write`):
+
+| Function | Declared in | Program | Library for C |
+|---|---|---|---|
+"""
+# The crates of the kit that declare functions in C.
+DECLARING = ("libc", "os", "std")
+
+
+class Reached(NamedTuple):
+    """The functions in C, by their whole names, that the program's and the library's proofs rest on."""
+
+    program: set[str]
+    library: set[str]
+
+
+def reached_of(said: str) -> set[str]:
+    """The functions in C that a proof rests on, by what the compiler said of it. Refused where that is no report."""
+    if not re.search(r"^axioms \w+: .* declared$", said, re.M):
+        raise Refused("the compiler said nothing of functions in C: was it asked by --list-axioms?")
+    return set(re.findall(r"^  ([\w:]+)   reached$", said, re.M))
+
+
+def declared(kit: pathlib.Path) -> set[str]:
+    """The names of all functions in C that the kit's crates declare."""
+    found = set()
+    for path in sorted(path for name in DECLARING for path in (kit / "rattle" / name / "src").rglob("*.rt")):
+        for block in re.findall(r'^( *)unsafe extern "C" \{\n(.*?)^\1\}', path.read_text(encoding="utf-8"), re.M | re.S):
+            found |= set(re.findall(r"\bfn (\w+)", re.sub(r"//[^\n]*", "", block[1])))
+    return found
+
+
+def asked_for(path: pathlib.Path) -> set[str]:
+    """The names that an object file or an archive asks for."""
+    return {line.split()[-1] for line in ran(["nm", "-u", path]).splitlines() if line.strip().startswith("U ")}
+
+
+def short(name: str) -> str:
+    return name.rpartition("::")[2]
+
+
+def section(reached: Reached, count: int) -> str:
+    """The part of the page that has the list, of so many declared functions."""
+    names = sorted(reached.program | reached.library)
+    rows = []
+    for name in names:
+        marks = ["yes" if name in part else "" for part in reached]
+        rows.append(f"| `{short(name)}` | `{name.rpartition('::')[0]}` | {' | '.join(marks)} |\n")
+    return BEGIN + HEAD.format(count=count, few=len(names)) + "".join(rows)
+
+
+def listed(page: str) -> Reached:
+    """The list in a page. Refused where the page has none."""
+    at = page.find(BEGIN)
+    rows = re.findall(r"^\| `(\w+)` \| `([\w:]+)` \| (\w*) \| (\w*) \|$", page[at : page.find(END, at + 1)], re.M)
+    if at < 0 or not rows:
+        raise Refused("docs/proved.md has no list of contracts of C functions")
+    return Reached({f"{home}::{name}" for name, home, program, _ in rows if program},
+                   {f"{home}::{name}" for name, home, _, library in rows if library})
+
+
+def rewritten(page: str, reached: Reached, count: int) -> str:
+    """The page with the list in its place."""
+    at = page.index(BEGIN)
+    return page[:at] + section(reached, count) + page[page.index(END, at + 1) :]
+
+
+def faults(page: str, kit: pathlib.Path, object_file: pathlib.Path, library: pathlib.Path, report: pathlib.Path):
+    """What is wrong with the list in a page, a line each. Files that aren't there are passed over."""
+    found, known = listed(page), declared(kit)
+    if page != rewritten(page, found, len(known)):
+        yield "docs/proved.md: the list isn't in its form, or counts other functions than the kit declares"
+    for name in sorted(found.program | found.library):
+        if short(name) not in known:
+            yield f"{name} is listed, and the kit declares no such function"
+    for what, part, path in (("program", found.program, object_file), ("library", found.library, library)):
+        asked = asked_for(path) & known if path.exists() else set()
+        for name in sorted(asked - {short(name) for name in part}):
+            yield f"the {what} asks for {name}, which isn't listed for it"
+    if report.exists() and reached_of(report.read_text()) != found.library:
+        yield f"the library's proof rests on other contracts: {' '.join(sorted(reached_of(report.read_text()) ^ found.library))}"
+
+
+def prove(crates: dict[str, list[str]]) -> Reached:
+    """Proves the program and the library over what the gate left, for what the compiler says of functions in C."""
+    kit, said = kit_folder(), []
+    for name, source, kind in (("surf", "src/main.rt", []), (libraries.NAME, "src/lib.rt", ["--crate-type", "staticlib"])):
+        with tempfile.TemporaryDirectory() as room:
+            words = [*libraries.build_words(kit, name, source, crates), *kind, "--toolchain", kit / "toolchain"]
+            said.append(ran([*words, "-o", pathlib.Path(room) / "made"], cwd=TOP / "crates" / name))
+            libraries.verdict_of(said[-1])
+    return Reached(*map(reached_of, said))
+
+
+def main() -> int:
+    missing = [tool for tool in ("rt", "nm") if not shutil.which(tool)]
+    if missing:
+        print(f"the list of contracts of C functions isn't compared, since {missing[0]} isn't here")
+        return 0
+    try:
+        if sys.argv[1:] == ["--write"]:
+            reached = prove(read_crates((TOP / "crates.txt").read_text()))
+            PAGE.write_text(rewritten(PAGE.read_text(), reached, len(declared(kit_folder()))))
+        elif sys.argv[1:] != ["--check"]:
+            sys.exit(__doc__)
+        wrong = list(faults(PAGE.read_text(), kit_folder(), libraries.OBJECT, libraries.MADE, libraries.REPORT))
+    except Refused as fault:
+        wrong = [str(fault)]
+    for fault in wrong:
+        print(fault)
+    print(f"contracts of C functions: {len(wrong)} faults in the list of docs/proved.md")
+    return 1 if wrong else 0
+
+
+if __name__ == "__main__":
+    sys.exit(main())
