@@ -425,6 +425,17 @@ class Versions(unittest.TestCase):
             with self.assertRaises(ValueError):
                 versions.agreed(self.program(room, "surf, a browser"), "## 1.2.3\n")
 
+    def test_changes_since_a_release(self):
+        with tempfile.TemporaryDirectory() as room:
+            program, changes = self.program(room, "surf 1.2.3"), "# Changes\n\n## Next\n\n- More.\n\n## 1.2.3\n"
+            self.assertEqual(versions.told(program, changes), "the version is 1.2.3, and Next has changes since")
+            self.assertEqual(versions.told(program, "## 1.2.3\n"), "the version is 1.2.3")
+            with self.assertRaises(proof.Refused):
+                versions.agreed(program, changes)
+            for wrong in (changes.replace("1.2.3", "1.2.2"), "## Next\n", "## Later\n\n## 1.2.3\n"):
+                with self.assertRaises(proof.Refused, msg=wrong):
+                    versions.told(program, wrong)
+
 
 if __name__ == "__main__":
     unittest.main()

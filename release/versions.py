@@ -2,7 +2,8 @@
 """Tries whether the list of changes begins with the version of the program: python3 release/versions.py [PROGRAM]
 
 The version has one home, what `surf --version` prints. Packages, the wheel and the manual page take it from there,
-and CHANGELOG.md has it as its first heading.
+and CHANGELOG.md has it as its first heading. Between releases the heading `Next` may stand before it, with what has
+changed since; no release is made then.
 """
 
 import datetime
@@ -15,6 +16,9 @@ from proof import PROGRAM, TOP, Refused
 sys.path.append(str(TOP / "tools"))
 
 from usage import version_of  # noqa: E402
+
+
+NEXT = "Next"
 
 
 def newest_change(text: str) -> str:
@@ -31,6 +35,14 @@ def agreed(program: pathlib.Path, changes: str | None = None) -> str:
     return version
 
 
+def told(program: pathlib.Path, changes: str) -> str:
+    """The version, and whether the list of changes has some since. Refused as by `agreed`, but that `Next` may stand
+    first."""
+    if newest_change(changes) != NEXT:
+        return f"the version is {agreed(program, changes)}"
+    return f"the version is {agreed(program, changes.split(f'## {NEXT}', 1)[1])}, and {NEXT} has changes since"
+
+
 def day(time: int) -> str:
     return datetime.datetime.fromtimestamp(time, datetime.timezone.utc).date().isoformat()
 
@@ -41,7 +53,7 @@ def main() -> int:
         print("there is no program: its version can't be tried")
         return 1
     try:
-        print(f"the version is {agreed(program)}")
+        print(told(program, (TOP / "CHANGELOG.md").read_text()))
     except (Refused, ValueError) as fault:
         print(fault)
         return 1
