@@ -1,6 +1,6 @@
 //! A shortest walk in the class of a walk.
 ghost use Rattle.std.specs.Prelude.{◌≡◌, ◌≤◌, ◌*◌, ◌^◌, length, IfOk};
-ghost use Rattle.surf_cover.specs.declared.limits.TheConstants.{MAX_LARGE_COVER_LOOPS, MAX_LARGE_COVER_NODES};
+ghost use Rattle.surf_base.specs.declared.limits.TheConstants.{MAX_LARGE_COVER_LOOPS, MAX_LARGE_COVER_NODES};
 ghost use Rattle.surf_surfaces.specs.Surface.{edge_count, loop_count};
 ghost use Rattle.surf_surfaces.specs.Walk.{IsClosed};
 ghost use Rattle.surf_cover.specs.Starts.{IsLeastInClass};

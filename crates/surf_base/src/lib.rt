@@ -20,7 +20,8 @@ mod transfer;
 pub use ids::{CopyId, EdgeId, FaceId, NOBODY, SideId, VertexId};
 pub use limits::{
     LimitKind, MAX_ANSWER, MAX_BASIS_VERTICES, MAX_CERTIFICATE_VERTICES, MAX_COVER_LOOPS,
-    MAX_COVER_NODES, MAX_FACES, MAX_LOOPS, MAX_SIDES, MAX_TEXT, MAX_VERTICES,
+    MAX_COVER_NODES, MAX_FACES, MAX_LARGE_COVER_LOOPS, MAX_LARGE_COVER_NODES, MAX_LOOPS, MAX_SIDES,
+    MAX_TEXT, MAX_VERTICES,
 };
 pub use memory::{MemShelf, MemSink};
 pub use outside::{Failed, NoMemory, Shelf, Sink};

@@ -31,6 +31,12 @@ pub const MAX_COVER_LOOPS: u32 = 8;
 /// Pairs of a vertex and a class that are searched for a shortest walk of a class.
 pub const MAX_COVER_NODES: u32 = 65_536;
 
+/// Independent loops where a shortest walk of a class is wanted on a larger mesh.
+pub const MAX_LARGE_COVER_LOOPS: u32 = 16;
+
+/// Pairs of a vertex and a class that are searched there.
+pub const MAX_LARGE_COVER_NODES: u32 = 16_777_216;
+
 /// What is greater than its limit.
 #[derive(Clone, Copy, Debug, PartialEq, Eq)]
 pub enum LimitKind {

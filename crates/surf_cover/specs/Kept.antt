@@ -1,6 +1,6 @@
 -- What a cover desk keeps between its searches.
 use Rattle.std.specs.Prelude.{◌≡◌, ℕ, ◌*◌, ◌≤◌, length, vec_capacity}
-use Rattle.surf_cover.specs.declared.limits.TheConstants.{MAX_LARGE_COVER_NODES}
+use Rattle.surf_base.specs.declared.limits.TheConstants.{MAX_LARGE_COVER_NODES}
 use Rattle.surf_heap.specs.Entries.{Entries}
 use Rattle.surf_cover.specs.Within.{AreListed}
 use Rattle.surf_cover.specs.declared.search.Reached.{Reached}

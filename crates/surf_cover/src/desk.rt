@@ -1,6 +1,6 @@
 //! The distances over the cover from one base.
 ghost use Rattle.std.specs.Prelude.{◌≡◌, ◌<◌, ◌≤◌, ◌*◌, ℕ, length, slice_index, IfOk};
-ghost use Rattle.surf_cover.specs.declared.limits.TheConstants.{MAX_LARGE_COVER_NODES};
+ghost use Rattle.surf_base.specs.declared.limits.TheConstants.{MAX_LARGE_COVER_NODES};
 ghost use Rattle.surf_graphs.specs.Cells.{Split};
 ghost use Rattle.surf_surfaces.specs.Surface.{edge_count};
 ghost use Rattle.surf_cover.specs.Networks.{IsCertifiedBy, IsCoverable, IsReadOff};

@@ -22,7 +22,6 @@
 
 mod choice;
 mod desk;
-mod limits;
 mod network;
 mod reading;
 mod rounds;
@@ -31,4 +30,3 @@ mod signs;
 
 pub use choice::{ClassWalk, least_in_class};
 pub use desk::CoverDesk;
-pub use limits::{MAX_LARGE_COVER_LOOPS, MAX_LARGE_COVER_NODES};

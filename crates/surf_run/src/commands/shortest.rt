@@ -10,7 +10,7 @@ ghost use Rattle.surf_run.specs.Fronts.{OnCovered};
 ghost use Rattle.surf_run.specs.Reading.{HoldsSurface};
 ghost use Rattle.surf_run.specs.Steps.{AtMost};
 ghost use Rattle.surf_base.specs.declared.limits.LimitKind.TheVariants.{CoverLoops, CoverNodes};
-ghost use Rattle.surf_cover.specs.declared.limits.TheConstants.{MAX_LARGE_COVER_LOOPS, MAX_LARGE_COVER_NODES};
+ghost use Rattle.surf_base.specs.declared.limits.TheConstants.{MAX_LARGE_COVER_LOOPS, MAX_LARGE_COVER_NODES};
 
 use crate::lengths::lengths_named;
 use crate::limits::{at_most, test_loops};
@@ -18,8 +18,10 @@ use crate::reading::surface_through;
 use crate::walks::walk_named;
 use std::alloc::Global;
 use surf_answers::{Answered, loop_count, shortest_of};
-use surf_base::{LimitKind, MAX_COVER_LOOPS, MAX_COVER_NODES, Shelf};
-use surf_cover::{MAX_LARGE_COVER_LOOPS, MAX_LARGE_COVER_NODES};
+use surf_base::{
+    LimitKind, MAX_COVER_LOOPS, MAX_COVER_NODES, MAX_LARGE_COVER_LOOPS, MAX_LARGE_COVER_NODES,
+    Shelf,
+};
 use surf_mesh::HalfMesh;
 use surf_texts::{Refused, WalkFile};
 
