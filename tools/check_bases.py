@@ -5,11 +5,12 @@
 
 The plain method is written here from the definitions: trees of shortest walks at each vertex, the heaviest tree of faces
 for each, all loops in order of length, base and edge, and of these what is independent of those before. It shares
-nothing with the program and takes a search at every vertex. `loops`, `basis` and `cycle` have to print the same bytes.
+nothing with the program and takes a search at every vertex. `loops`, `basis` and `cycle`, the last two also with
+`large`, have to print the same bytes.
 Surfaces of both kinds are made from tori, bottles and planes, glued to each other, by turning edges over; their lengths
 are equal, or few, or many. A quarter as many more have long and short handles, and lengths that tie where a search ends.
-At the end come two meshes that are too large for the plain method, of which the answer is known otherwise: 1,024 loops of
-length 4, and a torus at the limit of 20,000 vertices.
+At the end come meshes that are too large for the plain method, of which the answer is known otherwise: 1,024 loops of
+length 4, a torus at the limit of 20,000 vertices, and one past it.
 """
 
 import argparse
@@ -250,8 +251,10 @@ def compared(program, folder, chance, make, measure):
     (folder / "m").write_text(off(count, faces))
     (folder / "l").write_text("".join(f"{u} {v} {n}\n" for (u, v), n in zip(plain.edges, lengths)))
     base = chance.randrange(count)
-    commands = (("loops", "m", "l", str(base)), ("basis", "m", "l"), ("cycle", "m", "l"))
-    for words, due in zip(commands, plain.answers(base)):
+    loops, basis, cycle = plain.answers(base)
+    commands = ((("loops", "m", "l", str(base)), loops), (("basis", "m", "l"), basis), (("cycle", "m", "l"), cycle),
+                (("basis", "m", "l", "large"), basis), (("cycle", "m", "l", "large"), cycle))
+    for words, due in commands:
         came = run(program, folder, *words)
         if came != due:
             print(f"{' '.join(words)} on\n{(folder / 'm').read_text()}{(folder / 'l').read_text()}gave\n{came}due\n{due}")
@@ -260,14 +263,15 @@ def compared(program, folder, chance, make, measure):
 
 
 def known(program, folder):
-    """Two great meshes of which the answer is known."""
+    """Great meshes of which the answer is known."""
     well = True
-    for words, head in ((("chain", "512", "4", "4"), "cycles 1024\ntotal 4096\n"),
-                        (("torus", "100", "200"), "cycles 2\ntotal 300\n")):
-        (folder / "m").write_text(run(program, folder, "gen", *words))
-        came = run(program, folder, "basis", "m", "unit")
+    for shape, last, head in (("chain 512 4 4", [], "cycles 1024\ntotal 4096\n"),
+                              ("torus 100 200", [], "cycles 2\ntotal 300\n"),
+                              ("torus 142 141", ["large"], "cycles 2\ntotal 283\n")):
+        (folder / "m").write_text(run(program, folder, "gen", *shape.split()))
+        came = run(program, folder, "basis", "m", "unit", *last)
         if not came.startswith(head):
-            print(f"basis of gen {' '.join(words)} began {came[:60]!r}")
+            print(f"basis of gen {shape} began {came[:60]!r}")
             well = False
     return well
 

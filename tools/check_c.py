@@ -85,6 +85,8 @@ def calls():
     yield "cut 1 2 0 through 3", [mesh["eight"], unit, b"100 300\n"]
     yield from ((words, [mesh["tet"], walk, b"null 1 0\n"]) for words in ("class 1 2", "same 1 2 2", "confirm 1 2 3"))
     yield "shortest 1 2 3", [mesh["torus7"], unit, walk]
+    yield "shortest 1 2 3 large", [mesh["torus7"], unit, walk]
+    yield from ((f"{word} 1 2 large", [mesh["torus7"], unit]) for word in ("basis", "cycle"))
     yield "lengths 1 6", [mesh["eight"]]
     yield "gen torus 100 100", []
     yield "try torus 5 5 1", []

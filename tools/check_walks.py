@@ -80,10 +80,12 @@ def compared(program, folder, chance):
     for _ in range(4):
         walk = " ".join(map(str, some_walk(plain, chance)))
         (folder / "w").write_text(walk + "\n")
-        came, due = run(program, folder, "shortest", "m", "l", "w"), cover.shortest(list(map(int, walk.split())))
-        if came != due:
-            wrong += 1
-            print(f"shortest of {walk} on\n{(folder / 'm').read_text()}{(folder / 'l').read_text()}gave\n{came}due\n{due}")
+        due = cover.shortest(list(map(int, walk.split())))
+        for last in ([], ["large"]):
+            came = run(program, folder, "shortest", "m", "l", "w", *last)
+            if came != due:
+                wrong += 1
+                print(f"shortest of {walk} on\n{(folder / 'm').read_text()}{(folder / 'l').read_text()}gave\n{came}due\n{due}")
     return wrong
 
 

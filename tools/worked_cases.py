@@ -961,11 +961,19 @@ def limits(sheet):
     sheet.case("gen torus 100 201", keep="torus")
     for words in ("basis torus L", "cycle torus L"):
         sheet.case(words, status=6, diag="limit: basis-vertices\n", begins="torus")
+        sheet.case(f"{words} large", status=9, diag="read fault\n", begins="torus L")
     sheet.case("loops torus L 0", status=9, diag="read fault\n", begins="torus L")
     sheet.case("gen chain 5 4 4", keep="torus")
     sheet.case("shortest torus L W", status=6, diag="limit: cover-loops\n", begins="torus")
+    sheet.case("shortest torus L W large", status=9, diag="read fault\n", begins="torus L")
     sheet.case("gen chain 4 9 9", keep="torus")
     sheet.case("shortest torus L W", status=6, diag="limit: cover-nodes\n", begins="torus")
+    sheet.case("shortest torus L W large", status=9, diag="read fault\n", begins="torus L")
+    sheet.note("More loops, and more vertices with sets of loops, than a large cover has.")
+    sheet.case("gen chain 9 4 4", keep="torus")
+    sheet.case("shortest torus L W large", status=6, diag="limit: cover-loops\n", begins="torus")
+    sheet.case("gen chain 8 4 9", keep="torus")
+    sheet.case("shortest torus L W large", status=6, diag="limit: cover-nodes\n", begins="torus")
     sheet.case("class torus W", status=9, diag="read fault\n", begins="torus W")
 
 

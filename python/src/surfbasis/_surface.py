@@ -403,22 +403,22 @@ class Surface:
 
     def basis(self) -> Walks:
         """A shortest homology basis (mod 2): 2 - characteristic independent cycles, wherever they run, with the least
-        total length; the shortest first. Takes up to 20,000 vertices (LimitRefused).
+        total length; the shortest first. Where many vertices have loops of nearly one length, a large mesh may take
+        minutes.
 
         >>> basis = Surface.from_file("meshes/eight.off", decimals=6).basis()
         >>> basis.units, len(basis), basis[0].vertices.tolist()
         (12262957, 4, [68, 73, 75, 76, 78, 155, 154, 149, 148, 70])
         """
-        return self._walks(self._ask_lengths("basis M L", self._rooms().walks()))
+        return self._walks(self._ask_lengths("basis M L large", self._rooms().walks()))
 
     def cycle(self) -> Optional[Walk]:
-        """A shortest cycle that doesn't separate the surface; None on a sphere, where every cycle does. Takes up to
-        20,000 vertices (LimitRefused).
+        """A shortest cycle that doesn't separate the surface; None on a sphere, where every cycle does.
 
         >>> Surface.from_file("meshes/eight.off", decimals=6).cycle().length
         1.854371
         """
-        row = self._ask_lengths("cycle M L", self._rooms().walk()).split()
+        row = self._ask_lengths("cycle M L large", self._rooms().walk()).split()
         return None if row == [b"none"] else self._walk(row)
 
     def distances(self, base: int = 0) -> Distances:
@@ -513,14 +513,14 @@ class Surface:
         return _verdict(self._ask("confirm 1 2 3", [self._mesh(), _walk_line(walk), text], self._rooms().line()))
 
     def shortest(self, walk: Any) -> Walk:
-        """A shortest closed walk homologous (mod 2) to a closed walk. Takes up to 8 for 2 - characteristic, and up to
-        65,536 vertices times 2**(2 - characteristic) (LimitRefused).
+        """A shortest closed walk homologous (mod 2) to a closed walk. Takes up to 16 for 2 - characteristic, and up to
+        16,777,216 vertices times 2**(2 - characteristic) (LimitRefused).
 
         >>> surface = Surface.from_file("meshes/torus33.off", lengths="unit")
         >>> surface.shortest([0, 1, 2, 0, 3, 6]).vertices
         array([0, 8, 4])
         """
-        return self._walk(self._ask_lengths("shortest M L N", self._rooms().lift(), [_walk_line(walk)]).split())
+        return self._walk(self._ask_lengths("shortest M L N large", self._rooms().lift(), [_walk_line(walk)]).split())
 
     @classmethod
     def sew(cls, cut: Cut, *, lengths: Any = None, decimals: Optional[int] = None) -> Surface:

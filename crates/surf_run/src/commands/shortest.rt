@@ -86,12 +86,12 @@ fn answer_within<S: Shelf>(
     mesh: &str,
     asked: Asked<'_>,
 ) -> Result<Answered, Refused>
-    requires loops { asked.most_loops ≤ MAX_LARGE_COVER_LOOPS }
-    requires nodes { asked.most_nodes ≤ MAX_LARGE_COVER_NODES }
+    requires loops { asked.entry.most_loops ≤ MAX_LARGE_COVER_LOOPS }
+    requires nodes { asked.entry.most_nodes ≤ MAX_LARGE_COVER_NODES }
     ensures holds { S.holds shelf.new ≡ S.holds shelf.old }
     ensures later { S.faults shelf.old ≤ S.faults shelf.new }
     ensures tells { ConcludesOver (S.holds shelf.old) (S.faults shelf.old) (S.faults shelf.new)
-        (λ files. OnCovered asked.most_loops asked.most_nodes mesh.now asked.lengths.now asked.walk.now
+        (λ files. OnCovered asked.entry.most_loops asked.entry.most_nodes mesh.now asked.entry.lengths.now asked.entry.walk.now
         files (λ read. GivesShortestWalk read.1)) result }
 {
     let mut room = Vec::new(alloc);
@@ -107,14 +107,14 @@ fn answer_on<S: Shelf>(
     mesh: &HalfMesh,
     asked: Asked<'_>,
 ) -> Result<Answered, Refused>
-    requires loops { asked.most_loops ≤ MAX_LARGE_COVER_LOOPS }
-    requires nodes { asked.most_nodes ≤ MAX_LARGE_COVER_NODES }
+    requires loops { asked.entry.most_loops ≤ MAX_LARGE_COVER_LOOPS }
+    requires nodes { asked.entry.most_nodes ≤ MAX_LARGE_COVER_NODES }
     ensures holds { S.holds shelf.new ≡ S.holds shelf.old }
     ensures later { S.faults shelf.old ≤ S.faults shelf.new }
     ensures tells { (name bytes : List ℕ) (parts : OffParts) → HoldsSurface (S.holds shelf.old) name
         bytes (parts, mesh.now) → ConcludesOver (S.holds shelf.old) (S.faults shelf.old)
-        (S.faults shelf.new) (λ files. OnCovered asked.most_loops asked.most_nodes name
-        asked.lengths.now asked.walk.now files (λ read. GivesShortestWalk read.1)) result }
+        (S.faults shelf.new) (λ files. OnCovered asked.entry.most_loops asked.entry.most_nodes name
+        asked.entry.lengths.now asked.entry.walk.now files (λ read. GivesShortestWalk read.1)) result }
 {
     test_loops(mesh)?;
     test_cover_loops(mesh, asked.most_loops)?;
