@@ -91,8 +91,8 @@ fn answer_within<S: Shelf>(
     ensures holds { S.holds shelf.new ≡ S.holds shelf.old }
     ensures later { S.faults shelf.old ≤ S.faults shelf.new }
     ensures tells { ConcludesOver (S.holds shelf.old) (S.faults shelf.old) (S.faults shelf.new)
-        (λ files. OnCovered asked.entry.most_loops asked.entry.most_nodes mesh.now asked.entry.lengths.now asked.entry.walk.now
-        files (λ read. GivesShortestWalk read.1)) result }
+        (λ files. OnCovered asked.entry.most_loops asked.entry.most_nodes mesh.now
+        asked.entry.lengths.now asked.entry.walk.now files (λ read. GivesShortestWalk read.1)) result }
 {
     let mut room = Vec::new(alloc);
     let mesh = surface_through(alloc, shelf, mesh, &mut room)?;
