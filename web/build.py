@@ -13,9 +13,6 @@ All that is done with it here is tested, and not proved: docs/browser.md.
 """
 
 import argparse
-import base64
-import gzip
-import hashlib
 import json
 import pathlib
 import re
@@ -27,13 +24,10 @@ import tempfile
 WEB = pathlib.Path(__file__).resolve().parent
 TOP = WEB.parent
 sys.path.append(str(TOP / "release"))
+import bundle  # noqa: E402
 import libraries  # noqa: E402
 from proof import Refused, kit_folder  # noqa: E402
 
-# The modules of the page and of its worker, each behind those that it imports from.
-PAGE = ["units", "refusals", "commands", "paint", "samples", "camera", "gl", "plain", "view", "flat", "session"]
-PAGE += ["main"]
-WORKER = ["lines", "readers", "mend", "shape", "opened", "unfold", "program", "worker"]
 SAMPLES = ["ring", "eight", "three"]
 
 # Pointers, sizes and the order of bytes are those of x86-64, so the code may run under this layout as well.
@@ -193,44 +187,15 @@ def module_for_browsers(work):
     return checked(linked(compiled(text, kit, work), kit, work)), verdict
 
 
-def joined(names):
-    """The modules as one text: those that import stand behind what they import, so the lines of import fall away.
-    A name that two modules declare is an error of syntax in the text, which the browser and node refuse to run."""
-    texts = []
-    for name in names:
-        text = (WEB / f"page/{name}.js").read_text()
-        text = re.sub(r"^import \{[^}]*\} from '[^']*';\n", "", text, flags=re.M)
-        texts.append(re.sub(r"^export ", "", text, flags=re.M))
-    return "\n".join(texts)
-
-
-def packed(data):
-    """Bytes as text that a page can hold."""
-    return base64.b64encode(gzip.compress(data, 9, mtime=0)).decode()
-
-
-def hash_of(text):
-    """A text's mark for the page's policy, so that no other script or style is run."""
-    return f"'sha256-{base64.b64encode(hashlib.sha256(text.encode()).digest()).decode()}'"
-
-
 def page_of(wasm):
     """surf.html: the page with all that it needs inside."""
-    style, script = (WEB / "page/style.css").read_text(), joined(PAGE)
     samples = {name: (TOP / f"meshes/{name}.off").read_text() for name in SAMPLES}
     parts = {
-        "STYLE": style,
-        "SCRIPT": script,
-        "STYLE_HASH": hash_of(style),
-        "SCRIPT_HASH": hash_of(script),
-        "WORKER": packed(joined(WORKER).encode()),
-        "PROGRAM": packed(wasm),
-        "SAMPLES": packed(json.dumps(samples).encode()),
+        "WORKER": bundle.packed(bundle.joined(bundle.WORKER).encode()),
+        "PROGRAM": bundle.packed(wasm),
+        "SAMPLES": bundle.packed(json.dumps(samples).encode()),
     }
-    for text in (style, script):
-        if re.search(r"</(script|style)", text, re.I):
-            stop("a part of the page holds the end of its own element")
-    return re.sub(r"\{\{(\w+)\}\}", lambda found: parts[found[1]], (WEB / "page/index.html").read_text())
+    return bundle.html("index.html", ["viewer", "finder"], bundle.VIEWER + bundle.FINDER, parts)
 
 
 def main():

@@ -21,7 +21,7 @@ import sys
 import tempfile
 
 import browser
-import build
+import bundle
 import chrome
 
 WEB = pathlib.Path(__file__).resolve().parent
@@ -76,10 +76,10 @@ def modules() -> int:
     print(f"web: {passed} tests of the page's modules passed")
     wrong = int(status != 0)
     with tempfile.TemporaryDirectory() as room:
-        for names in (build.PAGE, build.WORKER):
-            bundle = pathlib.Path(room, "bundle.mjs")
-            bundle.write_text(build.joined(names))
-            status, text = said(["node", "--check", bundle])
+        for names in (bundle.VIEWER + bundle.FINDER, bundle.WORKER):
+            path = pathlib.Path(room, "bundle.mjs")
+            path.write_text(bundle.joined(names))
+            status, text = said(["node", "--check", path])
             if status:
                 print(text)
                 wrong += 1
