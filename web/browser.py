@@ -34,13 +34,11 @@ class Checks:
             print(f"web: {what}: {str(found)[:400]}")
 
 
-class Page(Chrome):
-    """The page in a browser, and what a user does with it."""
+class Actions:
+    """What a user does with the page, in any browser that goes to an address, clicks, takes files and runs scripts."""
 
-    def __init__(self, path: pathlib.Path, room: pathlib.Path, mark: str = "", **size):
-        super().__init__(**size)
-        self.room = room
-        self.downloads_to(room)
+    def visit(self, path: pathlib.Path, mark: str = ""):
+        """Opens the page from disk."""
         self.go(f"file://{path}{mark}")
         self.until(f"/^(Ready|Done|The page)/.test({text_of('said')})")
 
@@ -56,7 +54,7 @@ class Page(Chrome):
 
     def settled(self, act, seconds: float = 300) -> str:
         """Does something and waits until the page has ended what it began; what it then says."""
-        self.js("document.getElementById('said').textContent = '-'; undefined")
+        self.js("void (document.getElementById('said').textContent = '-')")
         act()
         ended = f"!document.body.classList.contains('busy') && {ENDS}.test({text_of('said')})"
         self.until(ended, seconds)
@@ -67,8 +65,8 @@ class Page(Chrome):
         return self.settled(lambda: self.set_value("command", command))
 
     def set_value(self, name: str, value: str):
-        self.js(f"""{{ const it = document.getElementById('{name}'); it.value = {value!r};
-            it.dispatchEvent(new Event('input')); it.dispatchEvent(new Event('change')); }}""")
+        self.js(f"""(() => {{ const it = document.getElementById('{name}'); it.value = {value!r};
+            it.dispatchEvent(new Event('input')); it.dispatchEvent(new Event('change')); }})()""")
 
     def press(self, name: str):
         self.js(f"document.getElementById('{name}').click()")
@@ -79,6 +77,21 @@ class Page(Chrome):
 
     def open(self, path: pathlib.Path) -> str:
         return self.settled(lambda: self.choose_file("#file", path))
+
+    def box(self) -> dict:
+        """Where the canvas is."""
+        script = "document.getElementById('canvas').getBoundingClientRect().toJSON()"
+        return {name: self.js(script)[name] for name in ("x", "y", "width", "height")}
+
+
+class Page(Actions, Chrome):
+    """The page in Chromium."""
+
+    def __init__(self, path: pathlib.Path, room: pathlib.Path, mark: str = "", **size):
+        super().__init__(**size)
+        self.room = room
+        self.downloads_to(room)
+        self.visit(path, mark)
 
     def saved(self, name: str, press: str) -> bytes:
         """What the page saves under this name when a button is pressed."""
@@ -91,11 +104,6 @@ class Page(Chrome):
                 return path.read_bytes()
             time.sleep(0.05)
         raise AssertionError(f"{name} was never saved")
-
-    def box(self) -> dict:
-        """Where the canvas is."""
-        script = "document.getElementById('canvas').getBoundingClientRect().toJSON()"
-        return {name: self.js(script)[name] for name in ("x", "y", "width", "height")}
 
     def shot(self) -> bytes:
         self.js("new Promise(done => requestAnimationFrame(() => requestAnimationFrame(done)))")
@@ -191,7 +199,7 @@ def drop_and_turn(page: Page, checks: Checks):
     checks.expect("its vertices are told", walk[0] == "Vertices:" and walk[1] == walk[-1] and len(walk) == 12, walk)
 
 
-def each_command(page: Page, checks: Checks, program: Program):
+def each_command(page: Actions, checks: Checks, program: Program):
     """Each command on eight.off with lengths in space, and what it saves."""
     page.open(MESHES / "eight.off")
     mesh, found = (MESHES / "eight.off").read_bytes(), []
@@ -217,7 +225,7 @@ def each_command(page: Page, checks: Checks, program: Program):
         checks.expect(f"the bytes of {command}", saved == program.said(words[command], mesh, measured), saved[:80])
 
 
-def walks(page: Page, checks: Checks, program: Program):
+def walks(page: Actions, checks: Checks, program: Program):
     """Classes of walks and shortest walks of a class, on the ring, with lengths of 1."""
     page.open(MESHES / "ring.off")
     page.set_value("lengths", "unit")
@@ -249,7 +257,7 @@ def walks(page: Page, checks: Checks, program: Program):
     page.set_value("lengths", "space")
 
 
-def through(page: Page, checks: Checks, program: Program):
+def through(page: Actions, checks: Checks, program: Program):
     """The cut through chosen vertices, where the module has it."""
     if not page.js("[...document.getElementById('command').options].some(it => it.value === 'through')"):
         print("web: the module has no cut through vertices, so the page doesn't offer it")
@@ -266,7 +274,7 @@ def through(page: Page, checks: Checks, program: Program):
     page.set_value("lengths", "space")
 
 
-def certificates(page: Page, checks: Checks):
+def certificates(page: Actions, checks: Checks):
     page.open(MESHES / "ring.off")
     for command, due in (("basis", "valid basis "), ("loops", "valid loops ")):
         page.choose(command)
@@ -279,7 +287,7 @@ def certificates(page: Page, checks: Checks):
     checks.expect("a picture is saved", picture.startswith(b"\x89PNG") and len(picture) > 5000, len(picture))
 
 
-def kinds(page: Page, checks: Checks, room: pathlib.Path):
+def kinds(page: Actions, checks: Checks, room: pathlib.Path):
     page.choose("basis")
     for path in files_of_each_kind(room):
         said = page.open(path)
@@ -312,7 +320,7 @@ def spoiled() -> list[tuple[str, str, str, list[str]]]:
     ]
 
 
-def refusals(page: Page, checks: Checks, room: pathlib.Path):
+def refusals(page: Actions, checks: Checks, room: pathlib.Path):
     """Files that are refused, what is said of them, and what mends them."""
     for name, text, due, cures in spoiled():
         (room / name).write_text(text)
@@ -365,10 +373,11 @@ def large(page: Page, checks: Checks, room: pathlib.Path):
     checks.expect("a mesh is dropped while a call runs", said.startswith("Done: 6 cycles"), said + page.fault())
 
 
-def samples(page: Page, checks: Checks):
+def samples(page: Actions, checks: Checks):
     page.choose("basis")
     for name, due in (("ring", 2), ("eight", 4), ("three", 6), ("Klein bottle", 2)):
-        said = page.settled(lambda: page.js(f"{{ const it = {page.button(name)}; it.focus(); it.click(); }}"))
+        press = f"(it => {{ it.focus(); it.click(); }})({page.button(name)})"
+        said = page.settled(lambda: page.js(press))
         checks.expect(f"the sample {name}", said.startswith(f"Done: {due} cycles"), said + page.fault())
     checks.expect("the Klein bottle has one side", page.facts().get("crosscaps") == "2", page.facts())
 

@@ -7,7 +7,7 @@
     check.py --pictures FOLDER          also writes pictures of the page
 
 Each part is passed over with a word where what it needs isn't here: a compiler of C, node, `rt` and `wasm-opt`, the
-program, Chromium. None of these belongs to the set-up but rt.
+program, Chromium, WebKit with its driver. None of these belongs to the set-up but rt.
 """
 
 import argparse
@@ -23,6 +23,7 @@ import tempfile
 import browser
 import bundle
 import chrome
+import webkit
 
 WEB = pathlib.Path(__file__).resolve().parent
 TOP = WEB.parent
@@ -190,14 +191,24 @@ def module_against_program(wasm, program, room) -> int:
     return wrong
 
 
-def in_browser(folder, given) -> int:
-    """The number of checks of the page that fail."""
+def in_chromium(folder, given) -> int:
+    """The number of checks of the page in Chromium that fail."""
     if not chrome.found():
-        print("web: the page isn't tried in a browser, since Chromium isn't here")
+        print("web: the page isn't tried in Chromium, since that isn't here")
         return 0
-    room = given.room / "browser"
+    room = given.room / "chromium"
     room.mkdir()
     return browser.tried(folder / "surf.html", given.program, room, given.pictures)
+
+
+def in_webkit(folder, given) -> int:
+    """The number of checks of the page in WebKit that fail."""
+    if not webkit.found():
+        print("web: the page isn't tried in WebKit, since WebKitWebDriver or Xvfb isn't here")
+        return 0
+    room = given.room / "webkit"
+    room.mkdir()
+    return webkit.tried(folder / "surf.html", given.program, room)
 
 
 def main():
@@ -223,7 +234,8 @@ def main():
             if given.program:
                 wrong += module_against_program(folder / "surf.wasm", given.program, given.room)
         if folder:
-            wrong += in_browser(folder, given)
+            wrong += in_chromium(folder, given)
+            wrong += in_webkit(folder, given)
     return 1 if wrong else 0
 
 

@@ -11,6 +11,7 @@ import { decimalsFor, shownLength } from './page/units.js';
 import { explain } from './page/refusals.js';
 import { readAnswer, readInfo } from './page/commands.js';
 import { kleinBottle } from './page/samples.js';
+import { Session, Stopped } from './page/session.js';
 
 const POINTS = [[0, 0, 0], [1, 0, 0], [0, 1, 0], [0, 0, 1]];
 const FACES = [[0, 1, 2], [0, 3, 1], [0, 2, 3], [1, 3, 2]];
@@ -207,4 +208,28 @@ test('the Klein bottle is closed, and its characteristic is 0', () => {
   const mesh = readOff(bytes(kleinBottle(28, 16))), { mates, edges } = matesOf(mesh);
   assert.ok(mates.every((mate) => mate >= 0));
   assert.equal(mesh.points.length / 3 - edges.length / 2 + mesh.starts.length - 1, 0);
+});
+
+test('a file is not opened whose worker ended while it was read', async () => {
+  const asked = [];
+  globalThis.Worker = class {
+    postMessage({ id, what }) {
+      asked.push(what);
+      queueMicrotask(() => this.onmessage({ data: { id, said: {} } }));
+    }
+
+    terminate() {}
+  };
+  const session = new Session('', new Uint8Array(0));
+  await session.start();
+  let read;
+  const blob = { arrayBuffer: () => new Promise((done) => { read = done; }) };
+  const opening = session.open({ name: 'a.off', blob });
+  await session.start();
+  read(new ArrayBuffer(8));
+  await assert.rejects(opening, Stopped);
+  assert.deepEqual(asked, ['load', 'load']);
+  await session.open({ name: 'b.off', blob: { arrayBuffer: async () => new ArrayBuffer(8) } });
+  await session.start();
+  assert.deepEqual(asked.slice(2), ['open', 'load', 'open'], 'a new worker is given the file again');
 });

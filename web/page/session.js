@@ -34,7 +34,7 @@ export class Session {
     worker.onerror = (event) => this.end(new Trapped(event.message || 'the worker failed'));
     const said = await this.ask('load', { program: this.program });
     if (this.opened) {
-      await this.ask('open', this.opened.file);
+      await this.give(this.opened.file);
       for (const how of this.opened.mends) await this.ask('mend', { how });
     }
     return said;
@@ -56,18 +56,28 @@ export class Session {
     else wait.resolve(said);
   }
 
-  /** Asks the worker to do something; the answer is what it says, or Refused, Stopped or another Error. */
-  ask(what, given = {}) {
+  /**
+   * Asks the worker to do something; the answer is what it says, or Refused, Stopped or another Error. The buffers in
+   * `moved` become the worker's.
+   */
+  ask(what, given = {}, moved = []) {
     return new Promise((resolve, reject) => {
       const id = ++this.asked;
       this.waits.set(id, { resolve, reject });
-      this.worker.postMessage({ ...given, id, what });
+      this.worker.postMessage({ ...given, id, what }, moved);
     });
+  }
+
+  /** Gives the worker a file. It is read here, since in WebKit the worker of a page from disk can't read a Blob. */
+  async give({ name, blob }) {
+    const { worker } = this, data = new Uint8Array(await blob.arrayBuffer());
+    if (worker !== this.worker) throw new Stopped('stopped');
+    return this.ask('open', { name, data }, [data.buffer]);
   }
 
   async open(file) {
     this.opened = null;
-    const shape = await this.ask('open', file);
+    const shape = await this.give(file);
     this.opened = { file, mends: [] };
     return shape;
   }

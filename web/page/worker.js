@@ -8,7 +8,7 @@ import { unfold } from './unfold.js';
 import { Program, wantOfMemory } from './program.js';
 
 const encoder = new TextEncoder();
-const state = { program: null, kind: '', blob: null, mesh: null, opened: null, files: new Map() };
+const state = { program: null, kind: '', mesh: null, opened: null, files: new Map() };
 
 /** The greatest disc that is laid in the plane: beyond it that takes minutes. */
 const MOST_UNFOLDED = 150000;
@@ -53,7 +53,7 @@ const mends = {
   largest: (mesh) => largest(tidy(mesh)),
   split: (mesh) => split(tidy(mesh)),
   close: (mesh) => closed(tidy(mesh)),
-  loose: async () => ({ mesh: tidy(readLooseOff(new Uint8Array(await state.blob.arrayBuffer()))) }),
+  loose: () => ({ mesh: tidy(readLooseOff(state.files.get('mesh'))) }),
 };
 
 const does = {
@@ -65,18 +65,18 @@ const does = {
   },
 
   /** Opens a file. An OFF goes to the program as it stands, so that lines which it names are those of the file. */
-  async open({ name, blob }) {
-    const data = new Uint8Array(await blob.arrayBuffer()), kind = kindOf(name, data), mesh = readMesh(kind, data);
-    Object.assign(state, { kind, blob });
+  open({ name, data }) {
+    const kind = kindOf(name, data), mesh = readMesh(kind, data);
+    state.kind = kind;
     if (kind === 'off') setMesh(mesh, data);
     else setMesh(tidy(kind === 'stl' ? merged(mesh) : mesh));
     return { kind, ...shapeOf(state.mesh) };
   },
 
   /** Mends the mesh. A mended OFF is written anew, so its names are kept from here on. */
-  async mend({ how }) {
+  mend({ how }) {
     const before = { vertices: state.mesh.points.length / 3, faces: state.mesh.starts.length - 1 };
-    const { mesh, ...more } = await mends[how](state.mesh);
+    const { mesh, ...more } = mends[how](state.mesh);
     if (!mesh.corners.length) throw new Error('nothing of the mesh is left');
     setMesh(mesh);
     const after = { vertices: mesh.points.length / 3, faces: mesh.starts.length - 1 };
