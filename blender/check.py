@@ -7,7 +7,8 @@
     check.py --pictures FOLDER          also draws the pictures of docs/blender.md there
 
 The add-on is tried over the program, and over the library where release/libraries.py has made it. Blender is no part
-of the set-up: where it isn't here that is said, and nothing is tried.
+of the set-up: where it or its numpy isn't here that is said, and nothing is tried. It runs with the system's PATH, since
+a Blender of the system looks for the folders of its Python beside the first `python3` on PATH.
 """
 
 import argparse
@@ -34,9 +35,22 @@ def zips(room, library):
         yield "library", build.make(room / "library", library)
 
 
+def plain_settings():
+    """The environment of each Blender."""
+    kept = {name: value for name, value in os.environ.items() if not name.startswith("SURFBASIS_")}
+    return {**kept, "PATH": os.confstr("CS_PATH") or os.defpath}
+
+
+def has_numpy(blender):
+    """Whether Blender's Python has a numpy, be it a broken one."""
+    asked = "import importlib.util; assert importlib.util.find_spec('numpy')"
+    words = [blender, "-b", "--factory-startup", "--python-exit-code", "3", "--python-expr", asked]
+    return subprocess.run(words, env=plain_settings(), capture_output=True).returncode != 3
+
+
 def tried(blender, way, made, program, pictures):
     """Whether the tests pass in a Blender whose settings are in a folder of their own."""
-    settings = {name: value for name, value in os.environ.items() if not name.startswith("SURFBASIS_")}
+    settings = plain_settings()
     if way == "program":
         settings["SURFBASIS_PROGRAM"] = str(program)
     for name in ("CONFIG", "SCRIPTS", "DATAFILES"):
@@ -62,6 +76,9 @@ def main():
     given = parser.parse_args()
     if not given.blender:
         print("the add-on for Blender isn't tried, since Blender isn't here")
+        return 0
+    if not has_numpy(given.blender):
+        print("the add-on for Blender isn't tried, since numpy isn't here for Blender's Python")
         return 0
     if not given.program.is_file():
         print(f"{given.program.name} isn't built: the add-on for Blender can't be tried")
