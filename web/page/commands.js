@@ -8,7 +8,7 @@ import { plural, shownLength } from './units.js';
 export const COMMANDS = {
   basis: {
     label: 'Shortest homology basis', asks: 'none', step: 'Looking for a shortest homology basis',
-    words: (L) => `basis 1 ${L}`, files: ['mesh', 'lengths'],
+    words: (L) => `basis 1 ${L} large`, files: ['mesh', 'lengths'],
     certify: (L) => `certify 1 ${L}`, mostCertified: 1000,
   },
   loops: {
@@ -18,7 +18,7 @@ export const COMMANDS = {
   },
   cycle: {
     label: 'Shortest nonseparating cycle', asks: 'none', step: 'Looking for a shortest nonseparating cycle',
-    words: (L) => `cycle 1 ${L}`, files: ['mesh', 'lengths'],
+    words: (L) => `cycle 1 ${L} large`, files: ['mesh', 'lengths'],
   },
   trim: {
     label: 'Cut into a disc, trimmed', asks: 'one', step: 'Cutting', isCut: true,
@@ -38,7 +38,7 @@ export const COMMANDS = {
   },
   shortest: {
     label: 'Shortest walk homologous to a closed walk', asks: 'many', step: 'Looking for a shortest walk',
-    isOfWalk: true, words: (L) => `shortest 1 ${L} 3`, files: ['mesh', 'lengths', 'walk'],
+    isOfWalk: true, words: (L) => `shortest 1 ${L} 3 large`, files: ['mesh', 'lengths', 'walk'],
   },
 };
 

@@ -8,9 +8,6 @@ import { MENDED, vertexCount } from './mended.js';
 import { Refused, Stopped, Trapped } from './session.js';
 import { Work } from './work.js';
 
-/** Bases and cycles are found on so many vertices. */
-const MOST_FOR_BASES = 20000;
-
 /** Says what is under way, or how it ended. */
 export const tell = (text) => { $('said').textContent = text; };
 
@@ -138,8 +135,7 @@ export class Finder {
     });
   }
 
-  async applyCure({ how, command: other, lengths }) {
-    if (other) $('command').value = other;
+  async applyCure({ how, lengths }) {
     if (lengths) $('lengths').value = lengths;
     this.showFields();
     if (!how) {
@@ -183,7 +179,7 @@ export class Finder {
     }
   }
 
-  /** Opens a file, and finds what is chosen; on a mesh that is too large for a basis, loops at a vertex. */
+  /** Opens a file, and finds what is chosen. */
   async open(name, blob) {
     if (!(await this.isFree())) return;
     let isOpen = false;
@@ -196,14 +192,7 @@ export class Finder {
       this.takeShape(await this.opened(name, blob));
       isOpen = true;
     });
-    if (!isOpen) return;
-    if (this.viewer.count > MOST_FOR_BASES && ['basis', 'cycle'].includes($('command').value)) {
-      $('command').value = 'loops';
-      this.showFields();
-      this.setVertices([0]);
-      $('note').textContent = 'Bases and cycles are found on up to 20,000 vertices, so these are loops at a vertex.';
-    }
-    await this.find();
+    if (isOpen) await this.find();
   }
 
   // Finding.

@@ -15,7 +15,6 @@ const SPLIT = { label: 'Take it apart there', how: 'split' };
 const LARGEST = { label: 'Keep the largest part', how: 'largest' };
 const TIDY = { label: 'Leave such vertices and faces out', how: 'tidy' };
 const LOOSE = { label: 'Read the file loosely', how: 'loose' };
-const LOOPS = { label: 'Find loops at a vertex', command: 'loops' };
 const UNIT = { label: 'Give each edge the length 1', lengths: 'unit' };
 
 const TEXTS = {
@@ -35,10 +34,10 @@ const LIMITS = {
   faces: 'The mesh has more than 2,000,000 faces. Simplify it.',
   sides: 'The faces of the mesh have more than 6,000,000 corners. Simplify it.',
   loops: 'The surface has more than 1,024 independent loops. Noise often makes small handles: smooth the mesh.',
-  'basis-vertices': 'Bases and cycles are found on up to 20,000 vertices, and loops at a vertex on up to 1,000,000.',
+  'basis-vertices': 'The mesh has more than 20,000 vertices.',
   'certificate-vertices': 'Certificates of a basis are for up to 1,000 vertices.',
-  'cover-loops': 'Walks of a class are found on surfaces with up to 8 independent loops.',
-  'cover-nodes': 'The mesh is too large for that: its vertices times 2 to the number of loops may be up to 65,536.',
+  'cover-loops': 'Walks of a class are found on surfaces with up to 16 independent loops.',
+  'cover-nodes': 'The mesh is too large for that: its vertices times 2 to the number of loops may be up to 16,777,216.',
   answer: 'The answer would be larger than 1,073,741,824 bytes.',
 };
 
@@ -126,7 +125,7 @@ export function explain(line, shape) {
   const it = new Named(rest.map(Number), shape);
   if (kind === 'surface') return surely(SURFACE[word] && SURFACE[word](it));
   if (kind === 'coordinates') return surely(COORDINATES[word] && COORDINATES[word](it));
-  if (kind === 'limit') return { text: LIMITS[word] || '', cures: word === 'basis-vertices' ? [LOOPS] : [] };
+  if (kind === 'limit') return { text: LIMITS[word] || '' };
   if (kind === 'base') return { text: `The mesh has no vertex ${word}: they are numbered from 0.` };
   if (kind === 'vertices') return { text: VERTICES[word] || '' };
   if (kind === 'memory') return { text: 'There was not enough memory. Close other tabs, or take a smaller mesh.' };
