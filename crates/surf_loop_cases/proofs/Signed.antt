@@ -29,5 +29,5 @@ two_loops_small mesh few same =
     let two : loop_count mesh ≡ 2 = omega (arith, same) in
     record {
       loops = omega (arith, two);
-      nodes = subst (λ n. mesh.vertices * 2 ^ n ≤ 65536) (sym two) (omega (arith, few));
+      nodes = subst (λ n. mesh.vertices * 2 ^ n ≤ 16777216) (sym two) (omega (arith, few));
     }
