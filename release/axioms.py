@@ -5,9 +5,9 @@
     axioms.py --check    ends with 1 where the list can't be right
 
 The compiler takes the contract of a C function as it is written. Asked by `--list-axioms`, it says which of these contracts
-a proof reached. `--check` proves nothing: each listed function has to be one that the kit declares, and each that the
-program or the library asks for has to be listed for it. The list of the library has to be what the compiler said when
-`libraries.py` made it.
+a proof reached, called or not. `--check` proves nothing: each listed function has to be one that the kit declares, and those
+that the program and the library ask for have to be listed. Which ones the program asks for, and what the compiler said when
+`libraries.py` made the library, have to be as in the list.
 """
 
 import pathlib
@@ -15,6 +15,7 @@ import re
 import shutil
 import sys
 import tempfile
+import textwrap
 from typing import NamedTuple
 
 import libraries
@@ -25,22 +26,30 @@ from crate_graph import read_crates  # noqa: E402
 
 PAGE = TOP / "docs/proved.md"
 BEGIN, END = "## Contracts of C functions\n", "\n## "
-HEAD = """
-The kit declares {count} functions in C, whose contracts the compiler takes as they are written. The proofs rest on these
-{few} of them, and on no other (`release/axioms.py --write`):
-
-| Function | Declared in | Program | Library for C |
-|---|---|---|---|
+TEXT = """The kit declares {count} functions in C, whose contracts the compiler takes as they are written. A proof rests on
+those that it reaches, called or not, and on no other: that of the program on {program}, that of the library for C on
+{library}. The program asks for those in bold. `release/axioms.py` made the list.
 """
+HEAD = "| Declared in | Program | Library for C |\n|---|---|---|\n"
 # The crates of the kit that declare functions in C.
 DECLARING = ("libc", "os", "std")
 
 
 class Reached(NamedTuple):
-    """The functions in C, by their whole names, that the program's and the library's proofs rest on."""
+    """The functions in C, by their whole names, that the program's and the library's proofs rest on, and those that the
+    program asks for."""
 
     program: set[str]
     library: set[str]
+    called: set[str]
+
+
+class Built(NamedTuple):
+    """What a gate left, if it did: the program's object file, the library for C, and what the compiler said of it."""
+
+    program: pathlib.Path
+    library: pathlib.Path
+    report: pathlib.Path
 
 
 def reached_of(said: str) -> set[str]:
@@ -68,24 +77,36 @@ def short(name: str) -> str:
     return name.rpartition("::")[2]
 
 
+def cell(names: set[str], home: str, called: set[str]) -> str:
+    """The names that are declared in one module, those that are called in bold."""
+    here = sorted(name for name in names if name.rpartition("::")[0] == home)
+    return ", ".join(f"**`{short(name)}`**" if name in called else f"`{short(name)}`" for name in here)
+
+
 def section(reached: Reached, count: int) -> str:
     """The part of the page that has the list, of so many declared functions."""
-    names = sorted(reached.program | reached.library)
-    rows = []
-    for name in names:
-        marks = ["yes" if name in part else "" for part in reached]
-        rows.append(f"| `{short(name)}` | `{name.rpartition('::')[0]}` | {' | '.join(marks)} |\n")
-    return BEGIN + HEAD.format(count=count, few=len(names)) + "".join(rows)
+    text = TEXT.format(count=count, program=len(reached.program), library=len(reached.library))
+    homes = sorted({name.rpartition("::")[0] for name in reached.program | reached.library})
+    rows = [f"| `{home}` | {cell(reached.program, home, reached.called)} | {cell(reached.library, home, set())} |\n" for home in homes]
+    return f"{BEGIN}\n{textwrap.fill(text, 118, break_on_hyphens=False)}\n\n{HEAD}{''.join(rows)}"
+
+
+def names_in(text: str, home: str) -> set[str]:
+    return {f"{home}::{name}" for name in re.findall(r"`(\w+)`", text)}
 
 
 def listed(page: str) -> Reached:
     """The list in a page. Refused where the page has none."""
     at = page.find(BEGIN)
-    rows = re.findall(r"^\| `(\w+)` \| `([\w:]+)` \| (\w*) \| (\w*) \|$", page[at : page.find(END, at + 1)], re.M)
+    rows = re.findall(r"^\| `([\w:]+)` \| (.*) \| (.*) \|$", page[at : page.find(END, at + 1)], re.M)
     if at < 0 or not rows:
         raise Refused("docs/proved.md has no list of contracts of C functions")
-    return Reached({f"{home}::{name}" for name, home, program, _ in rows if program},
-                   {f"{home}::{name}" for name, home, _, library in rows if library})
+    found = Reached(set(), set(), set())
+    for home, program, library in rows:
+        found.program.update(names_in(program, home))
+        found.library.update(names_in(library, home))
+        found.called.update(names_in(" ".join(re.findall(r"\*\*`\w+`\*\*", program)), home))
+    return found
 
 
 def rewritten(page: str, reached: Reached, count: int) -> str:
@@ -94,20 +115,29 @@ def rewritten(page: str, reached: Reached, count: int) -> str:
     return page[:at] + section(reached, count) + page[page.index(END, at + 1) :]
 
 
-def faults(page: str, kit: pathlib.Path, object_file: pathlib.Path, library: pathlib.Path, report: pathlib.Path):
-    """What is wrong with the list in a page, a line each. Files that aren't there are passed over."""
+def called_of(names: set[str], program: pathlib.Path) -> set[str]:
+    """Which of these functions the program's object file asks for."""
+    asked = asked_for(program)
+    return {name for name in names if short(name) in asked}
+
+
+def faults(page: str, kit: pathlib.Path, built: Built):
+    """What is wrong with the list in a page, a line each. What no gate left is passed over."""
     found, known = listed(page), declared(kit)
     if page != rewritten(page, found, len(known)):
         yield "docs/proved.md: the list isn't in its form, or counts other functions than the kit declares"
     for name in sorted(found.program | found.library):
         if short(name) not in known:
             yield f"{name} is listed, and the kit declares no such function"
-    for what, part, path in (("program", found.program, object_file), ("library", found.library, library)):
+    for what, part, path in (("program", found.program, built.program), ("library", found.library, built.library)):
         asked = asked_for(path) & known if path.exists() else set()
         for name in sorted(asked - {short(name) for name in part}):
             yield f"the {what} asks for {name}, which isn't listed for it"
-    if report.exists() and reached_of(report.read_text()) != found.library:
-        yield f"the library's proof rests on other contracts: {' '.join(sorted(reached_of(report.read_text()) ^ found.library))}"
+    if built.program.exists() and called_of(found.program, built.program) != found.called:
+        yield f"the program asks for others: {' '.join(sorted(called_of(found.program, built.program) ^ found.called))}"
+    others = reached_of(built.report.read_text()) ^ found.library if built.report.exists() else set()
+    if others:
+        yield f"the library's proof rests on other contracts: {' '.join(sorted(others))}"
 
 
 def prove(crates: dict[str, list[str]]) -> Reached:
@@ -118,7 +148,8 @@ def prove(crates: dict[str, list[str]]) -> Reached:
             words = [*libraries.build_words(kit, name, source, crates), *kind, "--toolchain", kit / "toolchain"]
             said.append(ran([*words, "-o", pathlib.Path(room) / "made"], cwd=TOP / "crates" / name))
             libraries.verdict_of(said[-1])
-    return Reached(*map(reached_of, said))
+    program, library = map(reached_of, said)
+    return Reached(program, library, called_of(program, libraries.OBJECT))
 
 
 def main() -> int:
@@ -132,7 +163,8 @@ def main() -> int:
             PAGE.write_text(rewritten(PAGE.read_text(), reached, len(declared(kit_folder()))))
         elif sys.argv[1:] != ["--check"]:
             sys.exit(__doc__)
-        wrong = list(faults(PAGE.read_text(), kit_folder(), libraries.OBJECT, libraries.MADE, libraries.REPORT))
+        built = Built(libraries.OBJECT, libraries.MADE, libraries.REPORT)
+        wrong = list(faults(PAGE.read_text(), kit_folder(), built))
     except Refused as fault:
         wrong = [str(fault)]
     for fault in wrong:

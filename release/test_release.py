@@ -288,7 +288,8 @@ class Axioms(unittest.TestCase):
     LIBC = 'unsafe extern "C" {\n    // fn none(a: i32)\n    pub safe fn read(fd: i32);\n    pub fn write(fd: i32)\n        requires { W fd };\n    fn pipe2();\n}\nfn own() {}\n'
     HEAP = 'mod c {\n    unsafe extern "C" {\n        pub fn take(n: usize);\n    }\n    fn other() {}\n}\n'
     OS = 'unsafe extern "C" {\n    pub safe fn arg();\n    pub fn open(path: &[u8]);\n}\n'
-    LIST = axioms.Reached({"libc::read", "libc::heap::take", "os::c::open"}, {"libc::heap::take"})
+    LIST = axioms.Reached({"libc::read", "libc::heap::take", "libc::pipe2", "os::c::open"}, {"libc::heap::take"},
+                          {"libc::read", "libc::heap::take", "os::c::open"})
     PAGE = f"# Proved\n\n{axioms.section(LIST, 6)}\n## Next\n"
 
     def setUp(self):
@@ -307,7 +308,7 @@ class Axioms(unittest.TestCase):
             if text:
                 path.write_text("".join(f"                 U {name}\n" for name in text.split()) if path.suffix != ".axioms" else text)
         with mock.patch.object(axioms, "ran", lambda words: words[-1].read_text()):
-            return list(axioms.faults(page, self.top, *files))
+            return list(axioms.faults(page, self.top, axioms.Built(*files)))
 
     def test_what_the_compiler_said(self):
         self.assertEqual(axioms.reached_of(self.SAID), {"libc::heap::take", "libc::read"})
@@ -320,7 +321,7 @@ class Axioms(unittest.TestCase):
 
     def test_the_list_is_read_back(self):
         self.assertEqual(axioms.listed(self.PAGE), self.LIST)
-        self.assertIn("| `take` | `libc::heap` | yes | yes |\n| `read` | `libc` | yes |  |\n| `open` | `os::c` | yes |  |\n", self.PAGE)
+        self.assertIn("| `libc` | `pipe2`, **`read`** |  |\n| `libc::heap` | **`take`** | `take` |\n| `os::c` | **`open`** |  |\n", self.PAGE)
         self.assertEqual(axioms.rewritten(self.PAGE, self.LIST, 6), self.PAGE)
         with self.assertRaisesRegex(proof.Refused, "no list"):
             axioms.listed("# Proved\n\n## Next\n")
@@ -331,12 +332,13 @@ class Axioms(unittest.TestCase):
         self.assertEqual(self.faults(report=self.SAID.replace("read   reached", "read")), [])
 
     def test_what_is_missing_in_the_list(self):
-        self.assertEqual(self.faults(program="take write"), ["the program asks for write, which isn't listed for it"])
+        self.assertEqual(self.faults(program="take read open write"), ["the program asks for write, which isn't listed for it"])
+        self.assertEqual(self.faults(program="take read pipe2"), ["the program asks for others: libc::pipe2 os::c::open"])
         self.assertEqual(self.faults(library="take read"), ["the library asks for read, which isn't listed for it"])
         self.assertEqual(self.faults(report=self.SAID), ["the library's proof rests on other contracts: libc::read"])
 
     def test_what_nobody_declares(self):
-        wrong = axioms.Reached(self.LIST.program | {"os::c::close"}, self.LIST.library)
+        wrong = self.LIST._replace(program=self.LIST.program | {"os::c::close"})
         self.assertEqual(self.faults(axioms.rewritten(self.PAGE, wrong, 6)), ["os::c::close is listed, and the kit declares no such function"])
         self.assertEqual(len(self.faults(axioms.rewritten(self.PAGE, self.LIST, 7))), 1)
 

@@ -72,6 +72,7 @@ CHECKS = [
     Check("tools/reach.py --unreached"),
     Check("tools/reach.py --check"),
     Check("release/proof.py"),
+    Check("release/axioms.py --check"),
     Check("release/test_release.py"),
     Check("release/versions.py"),
     Check("release/pages.py --check"),
