@@ -432,7 +432,7 @@ def worked_rows(program, room):
     """Words of worked rows on other meshes than the torus of 7 vertices."""
     meshes = TOP / "meshes"
     tet, torus = str(meshes / "tet.off"), str(meshes / "torus33.off")
-    chain, loops, basis = (room / name for name in ("chain", "chain.loops", "chain.basis"))
+    chain, loops, basis = (room / name for name in ("chain.off", "chain.loops", "chain.basis"))
     for path, words in ((chain, ["gen", "chain", "2", "4", "4"]), (loops, ["certify", chain, "unit", "0"]), (basis, ["certify", chain, "unit"])):
         path.write_bytes(program.run([str(word) for word in words])[1])
     rows = [["info", tet], ["loops", torus, "unit", "0"], ["cycle", torus, "unit"], ["basis", torus, "unit"],
