@@ -16,6 +16,7 @@ import pathlib
 import shlex
 import subprocess
 import sys
+import tempfile
 import time
 from collections.abc import Callable, Iterator
 from typing import NamedTuple
@@ -84,10 +85,14 @@ def ran(check: Check, top: pathlib.Path = TOP) -> Ended:
     started = time.monotonic()
     # Without buffers, so that what it prints and what its faults print stand in their order.
     settings = {**os.environ, "PYTHONDONTWRITEBYTECODE": "1", "PYTHONUNBUFFERED": "1"}
-    done = subprocess.run([sys.executable, *shlex.split(check.command)], cwd=top, env=settings, check=False,
-                          stdin=subprocess.DEVNULL, stdout=subprocess.PIPE, stderr=subprocess.STDOUT)
-    status = done.returncode if done.returncode >= 0 else 128 - done.returncode
-    return Ended(check, status, done.stdout.decode(errors="replace"), time.monotonic() - started)
+    # Into a file: a pipe would stay open as long as any process that the check left behind.
+    with tempfile.TemporaryFile() as out:
+        done = subprocess.run([sys.executable, *shlex.split(check.command)], cwd=top, env=settings, check=False,
+                              stdin=subprocess.DEVNULL, stdout=out, stderr=subprocess.STDOUT)
+        seconds = time.monotonic() - started
+        out.seek(0)
+        said = out.read().decode(errors="replace")
+    return Ended(check, done.returncode if done.returncode >= 0 else 128 - done.returncode, said, seconds)
 
 
 def startable(waiting: list[Check], running: list[Check]) -> Check | None:

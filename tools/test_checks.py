@@ -298,6 +298,11 @@ class Runner(unittest.TestCase):
             self.assertEqual(one.status, status, script)
             self.assertIn(f", status {status}\n", checks.shown(one))
 
+    def test_what_is_left_behind_holds_nothing_up(self):
+        one = self.ended("import subprocess\nprint('begun')\nsubprocess.Popen(['sleep', '20'])\n")
+        self.assertEqual((one.status, one.output), (0, "begun\n"))
+        self.assertLess(one.seconds, 15)
+
     def told(self, rows, jobs, run):
         return [one.check.command for one in checks.in_order(rows, checks.ends(rows, jobs, run))]
 
