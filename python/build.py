@@ -6,7 +6,7 @@
 The library is `crates/surf_c/out/libsurf_c.a`, which release/libraries.py makes, and the program, whose texts the
 tests compare, `crates/surf/out/surf`. It takes an interpreter with numpy, pip, setuptools, venv and wheel, and no
 network. The wheel has the modules of `src/surfbasis`, and what has its home elsewhere in the repository: the readers
-of mesh files, and the page of refusals. Its version is what the library says.
+of mesh files, the viewer, and the page of refusals. Its version is what the library says.
 """
 
 import argparse
@@ -21,11 +21,16 @@ import tempfile
 
 HERE = pathlib.Path(__file__).resolve().parent
 TOP = HERE.parent
-sys.path.insert(0, str(TOP / "release"))
+sys.path[:0] = [str(TOP / "release"), str(TOP / "web")]
+import bundle  # noqa: E402
 import libraries  # noqa: E402
 import proof  # noqa: E402
 
-FOLDERS = ((HERE / "src/surfbasis", ""), (TOP / "tools/meshfiles", "meshfiles"))
+FOLDERS = (
+    (HERE / "src/surfbasis", ""),
+    (TOP / "tools/meshfiles", "meshfiles"),
+    (TOP / "tools/viewfiles", "viewfiles"),
+)
 PAGE = TOP / "docs/refusals.md"
 ALLOWED = {"libc.so.6", "ld-linux-x86-64.so.2"}  # what the library may ask for, so that it runs on all Linux systems
 OLDEST = 17  # the least 2.N of the GNU C library that a tag can name
@@ -65,6 +70,7 @@ def assemble(folder, library=None):
         for path in (*source.glob("*.py"), *source.glob("py.typed")):
             shutil.copy(path, package / name / path.name)
     shutil.copy(PAGE, package / PAGE.name)
+    (package / "viewfiles/viewer.html").write_text(bundle.viewer(), encoding="utf-8")
     version = version_of(library) if library else "0"
     rows = '"""The version of surf that the package was made with; 0 where no library came with it."""\n\n'
     (package / "_version.py").write_text(f'{rows}VERSION = "{version}"\n')

@@ -7,12 +7,16 @@ name `surfbasis`, and /usr/lib/surfbasis/bin has the command as `surf`, for thos
 import email.utils
 import pathlib
 import re
+import sys
 import textwrap
 from typing import NamedTuple
 
 import trees
 from libraries import needed_glibc
 from proof import TOP
+
+sys.path.append(str(TOP / "web"))
+import bundle  # noqa: E402
 
 NAME = "surfbasis"
 TRIPLET = "x86_64-linux-gnu"
@@ -63,6 +67,7 @@ def add_tools(tree: trees.Tree, place: str, names: list[str]) -> None:
     for path in tools_with(names):
         mode = 0o755 if path.read_bytes().startswith(b"#!") else 0o644
         tree.add(f"{place}/{path.relative_to(TOP / 'tools')}", path, mode)
+    tree.add(f"{place}/viewfiles/viewer.html", bundle.viewer().encode(), 0o644)
 
 
 def documents() -> list[pathlib.Path]:

@@ -1,6 +1,7 @@
 #!/usr/bin/env python3
 """Shows what `surf` printed, on the mesh that it printed it of.
 
+    show.py MESH [ANSWER] --html out.html    a page that shows it, to be turned in any browser
     show.py MESH [ANSWER] --png out.png      a picture, made here, without any viewer
     show.py MESH [ANSWER] --svg out.svg      the same as lines and polygons
     show.py MESH [ANSWER] --obj out.obj      the mesh with a polyline for each walk
@@ -11,7 +12,8 @@ ANSWER is the output of `loops`, `basis`, `cycle`, `shortest`, `class` or `same`
 after another, or a text that `cut` wrote of MESH, whose border is drawn as the cut. Without it the mesh alone is
 shown. Faces that close holes and the hub, which `to_off.py` adds, are left out, with all that runs over the hub.
 Pictures look along a line that --turn (degrees about the upright axis) and --tilt (degrees from above the horizon)
-give.
+give. The page lists walks with their lengths in units of 10^-D, where --decimals D tells how many decimals lengths
+were measured with.
 """
 
 import argparse
@@ -21,6 +23,7 @@ import struct
 import sys
 import zlib
 
+import viewfiles
 from off import Mesh, is_off, read_off
 
 PALETTE = [(214, 39, 40), (31, 119, 180), (44, 160, 44), (255, 127, 14), (148, 103, 189), (140, 86, 75)]
@@ -30,10 +33,11 @@ MARKED = (255, 209, 102)
 
 
 class Answer:
-    """Walks to be drawn, each a list of vertices, single edges, all of one colour, and faces to be coloured."""
+    """Walks to be drawn, each a list of vertices, with their lengths; single edges, all of one colour, and whether
+    these are the seams of a cut; and faces to be coloured."""
 
-    def __init__(self, edges=()):
-        self.walks, self.edges, self.faces = [], list(edges), set()
+    def __init__(self, edges=(), is_cut=False):
+        self.walks, self.units, self.edges, self.faces, self.is_cut = [], [], list(edges), set(), is_cut
 
     def lines(self):
         """Each walk and each single edge, with its colour."""
@@ -46,7 +50,7 @@ def cut_answer(text):
     """The border of an opened mesh, as edges between the vertices that its copies are of."""
     opened = read_off(text)
     border = [edge for edge, faces in opened.edges().items() if len(faces) == 1]
-    return Answer(edges=sorted({tuple(sorted(opened.origins[c] for c in edge)) for edge in border}))
+    return Answer(sorted({tuple(sorted(opened.origins[c] for c in edge)) for edge in border}), is_cut=True)
 
 
 def read_answer(text):
@@ -56,6 +60,7 @@ def read_answer(text):
     for row in (line.split() for line in text.splitlines()):
         if row[:1] in (["loop"], ["cycle"], ["shortest"]):
             answer.walks.append([int(v) for v in row[2:]])
+            answer.units.append(int(row[1]))
         elif row[:1] in (["null"], ["same"]):
             answer.faces |= {int(f) for f in row[2:]}
         elif row[:1] in (["odd"], ["different"]):
@@ -67,9 +72,12 @@ def read_answer(text):
 def without_added(mesh, answer):
     """The mesh and the answer without what was added to close holes."""
     face, vertex = mesh.added
-    shown = Answer(edge for edge in answer.edges if max(edge) < vertex)
+    shown = Answer((edge for edge in answer.edges if max(edge) < vertex), answer.is_cut)
     shown.faces = {number for number in answer.faces if number < face}
-    shown.walks = [walk for walk in answer.walks if max(walk) < vertex]
+    for walk, units in zip(answer.walks, answer.units):
+        if max(walk) < vertex:
+            shown.walks.append(walk)
+            shown.units.append(units)
     over = len(answer.walks) - len(shown.walks)
     if over:
         print(f"{over} of {len(answer.walks)} walks run over the hub and are left out", file=sys.stderr)
@@ -113,6 +121,20 @@ def coff_text(mesh, answer):
     for number, face in enumerate(mesh.faces):
         rows.append(" ".join(str(n) for n in [len(face), *face, *marked.get(number, PLAIN)]))
     return "\n".join(rows) + "\n"
+
+
+def html_text(title, mesh, answer, decimals, seen_from):
+    """A page. A cut is shown on the whole mesh, since it isn't a disc without what was added to close holes."""
+    first, _ = mesh.added
+    is_added = [number >= first for number in range(len(mesh.faces))] if first < len(mesh.faces) else []
+    drawn = viewfiles.Mesh(mesh.points, mesh.faces, is_added)
+    lines = [viewfiles.walk(walk, units, decimals) for walk, units in zip(answer.walks, answer.units)]
+    seams = answer.edges if answer.is_cut else None
+    if answer.edges and not answer.is_cut:
+        lines.insert(0, viewfiles.edge_set(answer.edges))
+    turn, tilt = seen_from
+    scene = viewfiles.Scene(title, drawn, lines, seams, sorted(answer.faces), turn=turn, tilt=tilt)
+    return viewfiles.html(scene)
 
 
 # ---- pictures
@@ -251,16 +273,20 @@ def main():
     parser = argparse.ArgumentParser(description=__doc__, formatter_class=argparse.RawDescriptionHelpFormatter)
     parser.add_argument("mesh", type=pathlib.Path)
     parser.add_argument("answer", type=pathlib.Path, nargs="?", help="a file, or - for standard input")
-    for name in ("obj", "vect", "coff", "svg", "png"):
+    for name in ("html", "obj", "vect", "coff", "svg", "png"):
         parser.add_argument(f"--{name}", type=pathlib.Path, metavar="FILE")
     parser.add_argument("--turn", type=float, default=30.0)
     parser.add_argument("--tilt", type=float, default=40.0)
     parser.add_argument("--size", type=int, default=600)
+    parser.add_argument("--decimals", type=int, default=0, metavar="D")
     words = parser.parse_args()
     mesh = read_off(words.mesh.read_text())
     answer = Answer()
     if words.answer:
         answer = read_answer(sys.stdin.read() if str(words.answer) == "-" else words.answer.read_text())
+    if words.html:
+        shown = words.mesh.stem, mesh, answer, words.decimals
+        words.html.write_text(html_text(*shown, (words.turn, words.tilt)), encoding="utf-8")
     mesh, answer = without_added(mesh, answer)
     for name, text_of in (("obj", obj_text), ("vect", vect_text), ("coff", coff_text)):
         if getattr(words, name):

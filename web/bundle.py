@@ -10,9 +10,11 @@ import re
 
 PAGE = pathlib.Path(__file__).resolve().parent / "page"
 
-# The modules of the viewer, of the page around it, and of its worker, each behind those that it imports from.
-VIEWER = ["units", "dom", "paint", "camera", "gl", "plain", "view", "flat", "viewer"]
+# The modules of the viewer, of the page around it, of a file that shows a picture, and of the page's worker, each
+# behind those that it imports from.
+VIEWER = ["units", "walks", "dom", "paint", "camera", "gl", "plain", "view", "flat", "walklist", "viewer"]
 FINDER = ["refusals", "commands", "form", "faults", "mended", "session", "work", "finder", "samples", "main"]
+PICTURE = ["lines", "readers", "mend", "shape", "opened", "unfold", "scene", "picture"]
 WORKER = ["lines", "readers", "mend", "shape", "opened", "unfold", "program", "worker"]
 
 
@@ -52,3 +54,9 @@ def html(name: str, styles: list[str], modules: list[str], parts: dict[str, str]
     own = {"STYLE": style, "SCRIPT": script, "STYLE_HASH": hash_of(style), "SCRIPT_HASH": hash_of(script)}
     own |= {it.upper(): (PAGE / f"{it}.html").read_text() for it in ("found", "stage")}
     return filled(name, own | parts)
+
+
+def viewer() -> str:
+    """The viewer alone, with {{TITLE}} and {{SCENE}} where the title and the packed scene of a picture are to stand."""
+    room = {name: f"{{{{{name}}}}}" for name in ("TITLE", "SCENE")}
+    return html("picture.html", ["viewer", "picture"], VIEWER + PICTURE, room)

@@ -5,13 +5,16 @@ import { test } from 'node:test';
 import { kindOf, readLooseOff, readMesh, readOff } from './page/readers.js';
 import { closed, firstAtPoint, largest, matesOf, merged, offOf, split, tidy } from './page/mend.js';
 import { longestEdge, shapeOf, trianglesOf } from './page/shape.js';
-import { readOpened } from './page/opened.js';
+import { cutAlong, readOpened } from './page/opened.js';
 import { unfold } from './page/unfold.js';
 import { decimalsFor, shownLength } from './page/units.js';
 import { explain } from './page/refusals.js';
 import { readAnswer, readInfo } from './page/commands.js';
 import { kleinBottle } from './page/samples.js';
 import { Session, Stopped } from './page/session.js';
+import { WALKS } from './page/paint.js';
+import { readScene } from './page/scene.js';
+import { walkOf } from './page/walks.js';
 
 const POINTS = [[0, 0, 0], [1, 0, 0], [0, 1, 0], [0, 0, 1]];
 const FACES = [[0, 1, 2], [0, 3, 1], [0, 2, 3], [1, 3, 2]];
@@ -232,4 +235,100 @@ test('a file is not opened whose worker ended while it was read', async () => {
   await session.open({ name: 'b.off', blob: { arrayBuffer: async () => new ArrayBuffer(8) } });
   await session.start();
   assert.deepEqual(asked.slice(2), ['open', 'load', 'open'], 'a new worker is given the file again');
+});
+
+/** A table of a scene, by hand: the lowest bytes of all numbers first. */
+const table = (...numbers) => [0, 8, 16, 24].flatMap((shift) => numbers.map((x) => (x >>> shift) & 255));
+/** The same of steps from each number to the next, from 0 on, the sign in the lowest bit. */
+const steps = (...numbers) => table(...numbers.map((x, k) => {
+  const step = x - (numbers[k - 1] || 0);
+  return step < 0 ? -2 * step - 1 : 2 * step;
+}));
+
+function sceneOf(head, ...tables) {
+  const words = bytes(JSON.stringify(head)), size = new Uint8Array(4);
+  new DataView(size.buffer).setUint32(0, words.length, true);
+  return Uint8Array.from([...size, ...words, ...tables.flat()]);
+}
+
+test('a scene is read', () => {
+  const head = {
+    title: '<b>', turn: 90, tilt: 0, isCut: false, points: { count: 3, low: [1, -2, 0], step: 0.5 },
+    faces: { count: 2, size: null, added: 1 }, marked: 1, values: { isOfFaces: false, low: -1, high: 3, label: 'x' },
+    lines: [{ size: 4, isWalk: true, units: 12, decimals: 1 }, { size: 2, isWalk: false, units: null, decimals: 0 }],
+  };
+  const points = [steps(0, 2, 0), steps(4, 0, 0), steps(0, 0, 70000)], faces = [table(3, 3), steps(1), steps(0, 0)];
+  const rest = [table(1, 2, 2, 1), steps(0, 1, 2, 0, 2, 1), steps(0), steps(0, 65535, 0)];
+  const scene = readScene(sceneOf(head, ...points, ...faces, ...rest));
+  // The third axis becomes the second one, which is the upright one of the picture.
+  assert.deepEqual([...scene.mesh.points], [1, 0, -0, 2, 0, 2, 1, 35000, 2]);
+  assert.deepEqual(facesOf(scene.mesh), [[0, 1, 2], [0, 2, 1]]);
+  assert.deepEqual([[...scene.hidden], [...scene.marked], scene.title], [[1], [0], '<b>']);
+  assert.deepEqual(scene.lines.map(({ vertices }) => [...vertices]), [[0, 1, 2, 0], [2, 1]]);
+  assert.deepEqual([...scene.values.parts], [0, 1, 0]);
+  assert.ok(Math.abs(scene.turn[0] + Math.PI / 2) < 1e-12 && scene.turn[1] === -0);
+});
+
+test('a torus that is cut along a meridian and a longitude is a disc', () => {
+  const at = (i, j) => 3 * (i % 3) + (j % 3), places = [], faces = [];
+  for (let i = 0; i < 3; i++) {
+    for (let j = 0; j < 3; j++) {
+      places.push([i, j, 0]);
+      faces.push([at(i, j), at(i + 1, j), at(i + 1, j + 1)], [at(i, j), at(i + 1, j + 1), at(i, j + 1)]);
+    }
+  }
+  const seams = [0, 1, 1, 2, 2, 0, 0, 3, 3, 6, 6, 0], { disc, round } = cutAlong(meshOf(places, faces), seams);
+  const edges = matesOf(disc).edges.length / 2;
+  assert.equal(disc.points.length / 3 - edges + faces.length, 1);
+  assert.equal(disc.points.length / 3, 16);
+  assert.deepEqual([round.length, new Set(round).size], [12, 12]);
+});
+
+test('walks are told with their lengths, or with their edges alone', () => {
+  assert.equal(walkOf([0, 1, 2, 0], 1234567, 6).title, 'length 1.23457, 3 edges');
+  assert.equal(walkOf([0, 1, 2, 0], 1234567, 0).title, 'length 1234567, 3 edges');
+  assert.equal(walkOf([0, 1, 2, 0], 3, null).title, '3 edges');
+  assert.deepEqual([...walkOf([5, 1, 5], 2, 1).edges], [5, 1, 1, 5]);
+  assert.equal(walkOf([5, 1, 5], 2, 1).length, 0.2);
+});
+
+/**
+ * What eyes see that lack a kind of cones, for shares of red, green and blue in proportion to light: G. M. Machado,
+ * M. M. Oliveira, L. A. F. Fernandes, "A Physiologically-based Model for Simulation of Color Vision Deficiency", 2009.
+ */
+const SIGHTS = {
+  usual: [1, 0, 0, 0, 1, 0, 0, 0, 1],
+  'without long waves': [
+    0.152286, 1.052583, -0.204868, 0.114503, 0.786281, 0.099216, -0.003882, -0.048116, 1.051998,
+  ],
+  'without middle waves': [
+    0.367322, 0.860646, -0.227968, 0.280085, 0.672501, 0.047413, -0.01182, 0.04294, 0.968881,
+  ],
+  'without short waves': [
+    1.255528, -0.076749, -0.178779, -0.078411, 0.930809, 0.147602, 0.004733, 0.691367, 0.3039,
+  ],
+};
+
+/** A colour in CIELAB, as it is seen. */
+function labOf(colour, sight) {
+  const light = [1, 3, 5].map((at) => parseInt(colour.slice(at, at + 2), 16) / 255)
+    .map((x) => (x <= 0.04045 ? x / 12.92 : ((x + 0.055) / 1.055) ** 2.4));
+  const [r, g, b] = [0, 3, 6].map((row) => light.reduce((sum, x, c) => sum + sight[row + c] * x, 0))
+    .map((x) => Math.max(0, Math.min(1, x)));
+  const white = [0.95047, 1, 1.08883];
+  const [x, y, z] = [[0.4124, 0.3576, 0.1805], [0.2126, 0.7152, 0.0722], [0.0193, 0.1192, 0.9505]]
+    .map(([p, q, s], k) => (p * r + q * g + s * b) / white[k])
+    .map((t) => (t > 216 / 24389 ? Math.cbrt(t) : ((24389 / 27) * t + 16) / 116));
+  return [116 * y - 16, 500 * (x - y), 200 * (y - z)];
+}
+
+test('neighbours in the list have colours that all eyes tell apart', () => {
+  for (const [theme, colours] of Object.entries(WALKS)) {
+    for (const [name, sight] of Object.entries(SIGHTS)) {
+      colours.forEach((colour, k) => {
+        const a = labOf(colour, sight), b = labOf(colours[(k + 1) % colours.length], sight);
+        assert.ok(Math.hypot(...a.map((x, c) => x - b[c])) > 25, `${theme}, ${name}: colours ${k} and ${k + 1}`);
+      });
+    }
+  }
 });

@@ -4,11 +4,13 @@ const FAR = 3.2, NEAR_PLANE = 0.5, FAR_PLANE = 8;
 
 export class Camera {
   constructor() {
+    this.home = [0.5, -0.45];
     this.reset();
   }
 
+  /** Goes back to where the mesh is seen from at first. */
   reset() {
-    this.turn = [0.5, -0.45];
+    this.turn = this.home;
     this.zoom = 1;
     this.shift = [0, 0];
   }
@@ -55,5 +57,12 @@ export class Camera {
       seen[k + 2] = far;
     }
     return seen;
+  }
+
+  /** Where the ends of edges are, as `seen` has it: end k of them in the place k. */
+  seenEnds(points, edges, width, height) {
+    const ends = new Float32Array(3 * edges.length);
+    edges.forEach((v, k) => ends.set(points.subarray(3 * v, 3 * v + 3), 3 * k));
+    return this.seen(ends, width, height);
   }
 }

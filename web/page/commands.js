@@ -1,5 +1,6 @@
 // What the page can ask the program for, and how its answers are read.
 import { plural, shownLength } from './units.js';
+import { walkOf } from './walks.js';
 
 /**
  * A row: how many vertices are asked for (`none`, `one`, `many`), the words of the call, the files that these name,
@@ -49,28 +50,12 @@ export const ASKS = {
   many: 'Vertices in order: click them on the mesh, or type their numbers',
 };
 
-/** The ends of a walk's edges, two numbers each. */
-export function edgesOfWalk(walk) {
-  const edges = new Uint32Array(2 * Math.max(0, walk.length - 1));
-  for (let k = 0; k + 1 < walk.length; k++) {
-    edges[2 * k] = walk[k];
-    edges[2 * k + 1] = walk[k + 1];
-  }
-  return edges;
-}
-
-const walkOf = (row, decimals) => {
-  const vertices = row.slice(2).map(Number), edges = edgesOfWalk(vertices), length = shownLength(row[1], decimals);
-  const title = `length ${length}, ${plural(vertices.length - 1, 'edge')}`;
-  return { edges, vertices, title: decimals === null ? title.replace(/^length .*?, /, '') : title };
-};
-
 /** Loops, cycles and walks of an answer, and its rows for the table of facts. */
 function readWalks(rows, decimals) {
   const walks = [], facts = [];
   for (const row of rows) {
     if (row[0] === 'total') facts.push(['total length', shownLength(row[1], decimals)]);
-    else if (['loop', 'cycle', 'shortest'].includes(row[0])) walks.push(walkOf(row, decimals));
+    else if (['loop', 'cycle', 'shortest'].includes(row[0])) walks.push(walkOf(row.slice(2).map(Number), row[1], decimals));
   }
   return { walks, facts };
 }

@@ -1,11 +1,12 @@
 // Opens meshes, has the program find what is asked for, and shows what it says.
 import { decimalsFor, plural } from './units.js';
-import { edgesOfWalk, readAnswer, readInfo } from './commands.js';
+import { readAnswer, readInfo } from './commands.js';
 import { $ } from './dom.js';
 import { chosenVertices, command, showFields } from './form.js';
 import { clearFault, showFault, showRefusal } from './faults.js';
 import { MENDED, vertexCount } from './mended.js';
 import { Refused, Stopped, Trapped } from './session.js';
+import { edgesOfWalk } from './walks.js';
 import { Work } from './work.js';
 
 /** Says what is under way, or how it ended. */

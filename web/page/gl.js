@@ -1,14 +1,14 @@
 // Paints a mesh and what is on it by WebGL 2.
-import { PATTERNS, shares, theme } from './paint.js';
+import { PATTERNS, seenThrough, shares, theme, valueColour } from './paint.js';
 
 const SOLID = [`#version 300 es
-  in vec3 at; uniform mat4 turn, whole; out vec3 p;
-  void main() { p = (turn * vec4(at, 1.0)).xyz; gl_Position = whole * vec4(at, 1.0); }`,
+  in vec3 at; in float part; uniform mat4 turn, whole; out vec3 p; out float value;
+  void main() { p = (turn * vec4(at, 1.0)).xyz; value = part; gl_Position = whole * vec4(at, 1.0); }`,
 `#version 300 es
-  precision highp float; in vec3 p; uniform vec3 colour; out vec4 o;
+  precision highp float; in vec3 p; in float value; uniform vec3 colour, most; out vec4 o;
   void main() {
     vec3 n = normalize(cross(dFdx(p), dFdy(p)));
-    o = vec4(colour * (0.58 + 0.36 * abs(n.z) + 0.06 * n.y), 1.0);
+    o = vec4(mix(colour, most, value) * (0.58 + 0.36 * abs(n.z) + 0.06 * n.y), 1.0);
   }`];
 
 const THIN = [`#version 300 es
@@ -62,10 +62,11 @@ export class GlPainter {
   constructor(gl) {
     this.gl = gl;
     this.programs = { solid: compiled(gl, SOLID), thin: compiled(gl, THIN), thick: compiled(gl, THICK) };
-    const names = ['points', 'triangles', 'edges', 'side', 'marked'];
+    const names = ['points', 'triangles', 'edges', 'side', 'marked', 'apart', 'parts'];
     this.buffers = Object.fromEntries(names.map((name) => [name, gl.createBuffer()]));
     this.fill('side', new Float32Array([-1, -1, 1, -1, 1, 1, -1, -1, 1, 1, -1, 1]));
     this.lines = [];
+    this.values = null;
   }
 
   fill(name, list, kind = this.gl.ARRAY_BUFFER) {
@@ -76,17 +77,35 @@ export class GlPainter {
   show({ triangles, edges }, points) {
     this.points = points;
     this.sizes = { triangles: triangles.length, edges: edges.length, marked: 0 };
+    this.values = null;
     this.fill('points', points);
     this.fill('triangles', triangles, this.gl.ELEMENT_ARRAY_BUFFER);
     this.fill('edges', edges, this.gl.ELEMENT_ARRAY_BUFFER);
   }
 
+  /** Takes lines with their looks. The buffers of edges that were here before are kept. */
   setLines(lines) {
-    for (const { buffer } of this.lines) this.gl.deleteBuffer(buffer);
+    const before = new Map(this.lines.map((line) => [line.edges, line]));
     this.lines = lines.map((line) => {
-      const isThin = line.edges.length / 2 > MOST_WIDE;
-      return { ...line, isThin, ...(isThin ? this.ends(line.edges) : this.segments(line.edges)) };
+      const { edges } = line, isThin = edges.length / 2 > MOST_WIDE, old = before.get(edges);
+      before.delete(edges);
+      const { buffer, count } = old || (isThin ? this.ends(edges) : this.segments(edges));
+      return { ...line, isThin, buffer, count };
     });
+    for (const { buffer } of before.values()) this.gl.deleteBuffer(buffer);
+  }
+
+  /** Colours faces by values: each vertex has one, or each face; or by none. Faces with values have own corners. */
+  setValues(values, { triangles, faces }) {
+    this.values = values;
+    if (!values) return;
+    const parts = values.isOfFaces ? Float32Array.from(triangles, (_, k) => values.parts[faces[Math.floor(k / 3)]])
+      : values.parts;
+    this.fill('parts', parts);
+    if (!values.isOfFaces) return;
+    const apart = new Float32Array(3 * triangles.length), { points } = this;
+    triangles.forEach((v, k) => apart.set(points.subarray(3 * v, 3 * v + 3), 3 * k));
+    this.fill('apart', apart);
   }
 
   setMarked(triangles) {
@@ -159,12 +178,24 @@ export class GlPainter {
     gl.blendFunc(gl.SRC_ALPHA, gl.ONE_MINUS_SRC_ALPHA);
     gl.enable(gl.POLYGON_OFFSET_FILL);
     gl.polygonOffset(1, 1);
-    this.paintFaces('triangles', { turn, whole, colour: shares(colours.face) });
+    if (this.values) this.paintValues({ turn, whole, colour: shares(valueColour(0)), most: shares(valueColour(1)) });
+    else this.paintFaces('triangles', { turn, whole, colour: shares(colours.face) });
     gl.polygonOffset(0, 0);
     this.paintFaces('marked', { turn, whole, colour: shares(tint) });
     gl.disable(gl.POLYGON_OFFSET_FILL);
     this.paintWires(whole, this.buffers.edges, this.sizes.edges, [...shares(colours.wire), this.faintness()]);
     this.paintLines(whole, colours.faint, ratio);
+  }
+
+  paintValues(given) {
+    const { gl } = this, { isOfFaces } = this.values, program = this.use('solid', given);
+    this.attribute(program, 'at', isOfFaces ? this.buffers.apart : this.buffers.points, [3, 0, 0, 0]);
+    this.attribute(program, 'part', this.buffers.parts, [1, 0, 0, 0]);
+    if (isOfFaces) gl.drawArrays(gl.TRIANGLES, 0, this.sizes.triangles);
+    else {
+      gl.bindBuffer(gl.ELEMENT_ARRAY_BUFFER, this.buffers.triangles);
+      gl.drawElements(gl.TRIANGLES, this.sizes.triangles, gl.UNSIGNED_INT, 0);
+    }
   }
 
   paintFaces(name, values) {
@@ -191,7 +222,7 @@ export class GlPainter {
   /** Walks and marks; what is behind the surface shines through faintly, or fully where it is to stand ahead. */
   paintLines(whole, faint, ratio) {
     const { gl } = this, size = [gl.canvas.width, gl.canvas.height];
-    const both = { whole, size, faint: shares(faint), edge: 1.2 * ratio };
+    const both = { whole, size, faint: shares(faint), edge: 1.2 * ratio }, through = seenThrough(this.lines.length);
     gl.depthMask(false);
     for (const isBehind of [true, false]) {
       if (isBehind) gl.disable(gl.DEPTH_TEST);
@@ -199,7 +230,8 @@ export class GlPainter {
       for (const line of this.lines) {
         if (!line.count) continue;
         const [a, b = 2, c = 2] = PATTERNS[line.pattern];
-        const alpha = (isBehind && !line.isAhead ? 0.25 : 1) * (line.isDim ? 0.2 : 1);
+        const behind = line.isAhead ? 1 : line.isPicked ? 0.5 : through;
+        const alpha = (isBehind ? behind : 1) * (line.isDim ? 0.2 : 1);
         const colour = [...shares(line.colour), alpha], own = { colour, stops: [a, b, c], width: line.width * ratio };
         if (line.isThin) this.paintWires(whole, line.buffer, line.count, colour);
         else this.paintSegments(line, this.use('thick', { ...both, ...own }));

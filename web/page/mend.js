@@ -65,15 +65,21 @@ export function merged(mesh) {
   return { ...mesh, corners: mesh.corners.map((v) => (v < first.length ? first[v] : v)) };
 }
 
+/** Of each side the vertex at its end: the corner behind that at its beginning. */
+export function aheadOf({ starts, corners }) {
+  const ahead = new Uint32Array(corners.length);
+  eachFace({ starts }, (from, to) => {
+    for (let k = from; k < to; k++) ahead[k] = corners[k + 1 < to ? k + 1 : from];
+  });
+  return ahead;
+}
+
 /**
  * Of each side, from a corner to the next, the other side at its edge: -1 where it has none, and -2 where the edge
  * has three sides or more. `edges` are the ends of all edges, two numbers each, in order.
  */
-export function matesOf({ points, starts, corners }) {
-  const count = points.length / 3, size = corners.length, ahead = new Uint32Array(size);
-  eachFace({ starts }, (from, to) => {
-    for (let k = from; k < to; k++) ahead[k] = corners[k + 1 < to ? k + 1 : from];
-  });
+export function matesOf(mesh) {
+  const { corners } = mesh, count = mesh.points.length / 3, size = corners.length, ahead = aheadOf(mesh);
   const firsts = new Uint32Array(count + 1);
   for (let k = 0; k < size; k++) firsts[Math.min(corners[k], ahead[k]) + 1]++;
   for (let v = 0; v < count; v++) firsts[v + 1] += firsts[v];
@@ -143,8 +149,8 @@ function fansOf(mesh, mates) {
 }
 
 /** The mesh in which each fan of faces at a vertex has a vertex of its own, and how many were added. */
-export function split(mesh) {
-  const fans = fansOf(mesh, matesOf(mesh).mates), count = mesh.points.length / 3;
+export function split(mesh, mates = matesOf(mesh).mates) {
+  const fans = fansOf(mesh, mates), count = mesh.points.length / 3;
   const owner = new Int32Array(count).fill(-1), copies = new Map();
   const points = new Table(Float64Array, 3 * count + 1), names = new Table(Uint32Array, count + 1);
   for (let v = 0; v < count; v++) {

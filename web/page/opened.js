@@ -1,6 +1,6 @@
 // Reads the text of a cut: the disc, and of which vertex each of its vertices is a copy.
 import { HASH, LF, latin } from './lines.js';
-import { matesOf } from './mend.js';
+import { aheadOf, matesOf, split } from './mend.js';
 import { readOff } from './readers.js';
 
 /** Of each copy its vertex, by the lines `# copy i from v` at the end of the text. */
@@ -17,7 +17,7 @@ function originsOf(data, count) {
 }
 
 /** The border of the disc as one round of copies. */
-function roundOf({ corners, points }, { mates, ahead }) {
+function roundOf({ corners, points }, mates, ahead) {
   const count = points.length / 3, beside = new Int32Array(2 * count).fill(-1), round = [];
   const link = (u, v) => { beside[beside[2 * u] < 0 ? 2 * u : 2 * u + 1] = v; };
   let start = -1;
@@ -51,6 +51,17 @@ function cutEdges(round, origins) {
 
 /** The disc of a cut's text, its border, and the edges that were cut, as ends of edges of the mesh that was cut. */
 export function readOpened(data) {
-  const disc = readOff(data), origins = originsOf(data, disc.points.length / 3), round = roundOf(disc, matesOf(disc));
+  const disc = readOff(data), origins = originsOf(data, disc.points.length / 3), { mates, ahead } = matesOf(disc);
+  const round = roundOf(disc, mates, ahead);
   return { disc, origins, round, edges: cutEdges(round, origins) };
+}
+
+/** The disc of a mesh that is cut along edges, which are given by their ends, and its border. */
+export function cutAlong(mesh, seams) {
+  const count = mesh.points.length / 3, keyOf = (u, v) => Math.min(u, v) * count + Math.max(u, v), keys = new Set();
+  for (let k = 0; k < seams.length; k += 2) keys.add(keyOf(seams[k], seams[k + 1]));
+  const { mates, ahead } = matesOf(mesh);
+  for (let k = 0; k < mates.length; k++) if (keys.has(keyOf(mesh.corners[k], ahead[k]))) mates[k] = -1;
+  const disc = split(mesh, mates).mesh;
+  return { disc, round: roundOf(disc, mates, aheadOf(disc)) };
 }

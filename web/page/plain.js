@@ -1,5 +1,5 @@
 // Paints a mesh and what is on it without WebGL: triangles and edges from the farthest to the nearest.
-import { PATTERNS, shares, theme } from './paint.js';
+import { PATTERNS, seenThrough, shares, theme, valueColour } from './paint.js';
 
 /** A colour in so much light, as a canvas takes it. */
 const lit = (colour, light) => `rgb(${shares(colour).map((x) => Math.round(255 * x * light))})`;
@@ -12,11 +12,13 @@ export class PlainPainter {
     this.context = context;
     this.lines = [];
     this.marked = new Set();
+    this.values = null;
   }
 
   show(shape, points) {
     this.shape = shape;
     this.points = points;
+    this.values = null;
   }
 
   setLines(lines) {
@@ -25,6 +27,18 @@ export class PlainPainter {
 
   setMarked(triangles, faces) {
     this.marked = faces;
+  }
+
+  /** Colours faces by values: each vertex has one, or each face; or by none. */
+  setValues(values) {
+    this.values = values;
+  }
+
+  /** The colour of a triangle that isn't marked. */
+  colourOf({ u, v, w, face }, colours) {
+    if (!this.values) return colours.face;
+    const { parts, isOfFaces } = this.values;
+    return valueColour(isOfFaces ? parts[face] : (parts[u] + parts[v] + parts[w]) / 3);
   }
 
   /** Paints the picture. Pixels of the screen are `ratio` pixels of the canvas. */
@@ -41,10 +55,15 @@ export class PlainPainter {
       if (item.line) this.paintSegment(item, seen, ratio, 1);
       else {
         const edge = items.length > MOST_WITH_EDGES ? null : `${colours.wire}4d`;
-        this.paintTriangle(item, seen, { turn, colour: item.isMarked ? tint : colours.face, edge });
+        const colour = this.marked.has(item.face) ? tint : this.colourOf(item, colours);
+        this.paintTriangle(item, seen, { turn, colour, edge });
       }
     }
-    for (const item of segments) this.paintSegment(item, seen, ratio, item.line.isAhead ? 1 : 0.22);
+    const through = seenThrough(this.lines.length);
+    for (const item of segments) {
+      const { isAhead, isPicked } = item.line;
+      this.paintSegment(item, seen, ratio, isAhead ? 1 : isPicked ? 0.5 : through);
+    }
   }
 
   triangles(seen) {
@@ -52,7 +71,7 @@ export class PlainPainter {
     faces.forEach((face, k) => {
       const [u, v, w] = triangles.subarray(3 * k, 3 * k + 3);
       const far = (seen[3 * u + 2] + seen[3 * v + 2] + seen[3 * w + 2]) / 3;
-      list.push({ u, v, w, far, isMarked: this.marked.has(face) });
+      list.push({ u, v, w, far, face });
     });
     return list;
   }

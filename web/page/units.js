@@ -9,9 +9,9 @@ export function decimalsFor(longest) {
   return Math.max(0, Math.min(9, Math.floor(Math.log10((0.93 * GREATEST) / longest))));
 }
 
-/** A length of so many units of 10^-decimals in words; without decimals it is a number of edges. */
+/** A length of so many units of 10^-decimals in words; without decimals it is a whole number, as of edges. */
 export function shownLength(units, decimals) {
-  if (decimals === null) return String(units);
+  if (!decimals) return String(units);
   return String(Number((Number(units) / 10 ** decimals).toPrecision(6)));
 }
 

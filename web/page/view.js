@@ -7,8 +7,15 @@ import { onTheme, styleOf, theme } from './paint.js';
 const KEYS = { ArrowLeft: [1, 0], ArrowRight: [-1, 0], ArrowUp: [0, 1], ArrowDown: [0, -1] };
 const NO_MARKS = { faces: [], vertices: [], edges: [], isFault: false };
 
-/** How near in pixels a vertex is that is meant by a place beside the surface. */
-const NEAR = 40;
+/** How near in pixels a vertex is that is meant by a place beside the surface, and a line by a place beside it. */
+const NEAR = 40, BESIDE = 6;
+
+/** How far a place is from the segment between two others. */
+function fromSegment([ax, ay], [bx, by], x, y) {
+  const dx = bx - ax, dy = by - ay, size = dx * dx + dy * dy;
+  const part = size ? Math.max(0, Math.min(1, ((x - ax) * dx + (y - ay) * dy) / size)) : 0;
+  return Math.hypot(ax + part * dx - x, ay + part * dy - y);
+}
 
 export class View {
   /** @param {HTMLCanvasElement} canvas @param {boolean} isPlain whether WebGL is left aside */
@@ -17,7 +24,7 @@ export class View {
     this.camera = new Camera();
     this.walks = [];
     this.marks = NO_MARKS;
-    this.pick = null;
+    this.pick = this.hover = null;
     const gl = isPlain ? null : canvas.getContext('webgl2', { antialias: true, alpha: false });
     this.painter = gl ? new GlPainter(gl) : new PlainPainter(canvas.getContext('2d'));
     new ResizeObserver(() => this.draw()).observe(canvas);
@@ -48,10 +55,19 @@ export class View {
     this.draw();
   }
 
-  /** Walks are `{edges, width, isDim, isPlain}`: walk k has the style k, or the ink of a mark where it is plain. */
+  /**
+   * Walks are `{edges, width, isDim, isPicked, isPlain, isHidden}`: walk k has the style k, or the ink of a mark where
+   * it is plain.
+   */
   setWalks(walks) {
     this.walks = walks;
     this.setLines();
+  }
+
+  /** Colours faces by values, as scene.js has them, or by none. */
+  setValues(values) {
+    this.painter.setValues(values, this.shape);
+    this.draw();
   }
 
   /** Marks are `{faces, vertices, edges, isFault}`. */
@@ -78,7 +94,7 @@ export class View {
     });
     lines.push({ ...mark, edges: Uint32Array.from(edges), width: 5 });
     lines.push({ ...mark, edges: Uint32Array.from(vertices.flatMap((v) => [v, v])), width: 6.5 });
-    this.painter.setLines(lines.filter((line) => line.edges.every((v) => v < count)));
+    this.painter.setLines(lines.filter((line) => !line.isHidden && line.edges.every((v) => v < count)));
     this.draw();
   }
 
@@ -119,6 +135,24 @@ export class View {
     return best;
   }
 
+  /** The walk that a place of the picture shows: of those close by the one that is nearest to the eye, or none. */
+  walkAt(x, y) {
+    if (!this.shape) return null;
+    const { clientWidth, clientHeight } = this.canvas;
+    let nearest = Infinity, found = null;
+    this.walks.forEach(({ edges, isHidden }, k) => {
+      if (isHidden) return;
+      const seen = this.camera.seenEnds(this.points, edges, clientWidth, clientHeight);
+      for (let at = 0; at < seen.length; at += 6) {
+        const far = Math.min(seen[at + 2], seen[at + 5]);
+        if (far >= nearest) continue;
+        if (fromSegment([seen[at], seen[at + 1]], [seen[at + 3], seen[at + 4]], x, y) > BESIDE) continue;
+        [nearest, found] = [far, k];
+      }
+    });
+    return found;
+  }
+
   /** The nearest face at a place of the picture. */
   faceAt(seen, x, y) {
     const { triangles, faces } = this.shape;
@@ -146,6 +180,7 @@ export class View {
     canvas.addEventListener('pointermove', (event) => this.follow(event));
     canvas.addEventListener('pointerup', (event) => this.lift(event));
     canvas.addEventListener('pointercancel', (event) => this.fingers.delete(event.pointerId));
+    canvas.addEventListener('pointerleave', () => this.hover?.(null));
     canvas.addEventListener('contextmenu', (event) => event.preventDefault());
     canvas.addEventListener('wheel', (event) => {
       event.preventDefault();
@@ -162,13 +197,30 @@ export class View {
   /** A finger or the mouse moves: one turns or moves the picture, two make it greater. */
   follow(event) {
     const last = this.fingers.get(event.pointerId);
-    if (!last) return;
+    if (!last) {
+      if (event.pointerType === 'mouse') this.seek(event);
+      return;
+    }
     const dx = event.clientX - last[0], dy = event.clientY - last[1];
     this.moved += Math.abs(dx) + Math.abs(dy);
     this.fingers.set(event.pointerId, [event.clientX, event.clientY]);
     if (this.fingers.size === 2) this.pinch([...this.fingers.values()]);
     else if (event.shiftKey || event.buttons === 2) this.change(() => this.moveBy(dx, dy));
     else this.change(() => this.camera.rotate(-dx * 0.01, -dy * 0.01));
+  }
+
+  /** The mouse moves and turns nothing: tells which walk is under it, and where it is, once for each frame. */
+  seek(event) {
+    if (!this.hover) return;
+    if (!this.sought) requestAnimationFrame(() => this.tellSought());
+    this.sought = event;
+  }
+
+  tellSought() {
+    const box = this.canvas.getBoundingClientRect(), x = this.sought.clientX - box.left;
+    const y = this.sought.clientY - box.top;
+    this.sought = null;
+    this.hover(this.walkAt(x, y), x, y);
   }
 
   pinch([a, b]) {

@@ -1,23 +1,25 @@
 // Shows a mesh and an answer on it: the picture, the disc of a cut beside it, the list of walks, and the facts.
 import { $, element } from './dom.js';
-import { chipOf, onTheme } from './paint.js';
+import { onTheme, valueColour } from './paint.js';
 import { View } from './view.js';
 import { Flat } from './flat.js';
+import { WalkList, nameOf } from './walklist.js';
 
-/**
- * What is drawn as one line and is a row of the list: the ends of its edges, two numbers each, and its vertices where
- * it is a walk. A plain one has no number and the ink of a mark.
- * @typedef {{edges: Uint32Array, vertices: number[], title: string, isPlain?: boolean}} Walk
- */
+/** Walks are as wide in pixels; with many of them they are narrower. */
+const WIDE = 4.2, NARROW = 3, PICKED = 6, MANY_WALKS = 40;
 
 export class Viewer {
   /** @param {boolean} isPlain whether WebGL is left aside */
   constructor(isPlain) {
     this.view = new View($('canvas'), isPlain);
     this.flat = new Flat($('flat-canvas'));
+    this.list = new WalkList({
+      pick: (k) => this.pickOut(k), hover: (k) => this.point(k), choose: () => this.changed(),
+    });
     this.walks = [];
-    this.chosen = null;
-    onTheme(() => this.listWalks());
+    this.chosen = this.pointed = null;
+    this.view.hover = (k, x, y) => this.name(k, x, y);
+    onTheme(() => this.list.recolour());
   }
 
   /** The mesh that is shown, or nothing. */
@@ -35,6 +37,7 @@ export class Viewer {
     this.view.show(shape);
     this.showWalks([]);
     this.showDisc(null);
+    this.showScale(null);
     this.describe(`The mesh ${name}`);
   }
 
@@ -48,11 +51,11 @@ export class Viewer {
     $('canvas').setAttribute('aria-label', text);
   }
 
-  /** Draws walks in place of those that are there, and lists them; none is picked out. @param {Walk[]} walks */
+  /** Draws walks in place of those that are there, and lists them. @param {import('./walks.js').Walk[]} walks */
   showWalks(walks) {
     this.walks = walks;
-    this.chosen = null;
-    this.listWalks();
+    this.chosen = this.pointed = null;
+    this.list.show(walks);
     this.drawWalks();
   }
 
@@ -60,40 +63,65 @@ export class Viewer {
     if (this.shape) this.view.setWalks(this.walks.map((walk, k) => this.drawn(walk, k)));
     const walk = this.walks[this.chosen];
     $('walk').textContent = walk && walk.vertices.length ? `Vertices: ${walk.vertices.join(' ')}` : '';
+    this.list.mark(this.chosen, this.pointed);
   }
 
-  /** Walk k as it is drawn, whether it is picked out, another one is, or none. */
+  /** Walk k as it is drawn, whether it is picked out or pointed at, another one is picked out, or none. */
   drawn({ edges, isPlain }, k) {
-    const isDim = this.chosen !== null && this.chosen !== k;
-    const width = this.chosen === k ? 6 : isPlain ? 3 : 4.2;
-    return { edges, isPlain, isDim, width };
-  }
-
-  listWalks() {
-    $('list').replaceChildren(...this.walks.map((walk, k) => {
-      const button = element('button', { type: 'button' }), chip = element('span', { className: 'chip' });
-      button.setAttribute('aria-pressed', String(k === this.chosen));
-      chip.style.background = walk.isPlain ? 'currentColor' : chipOf(k);
-      button.append(chip, `${walk.isPlain ? '' : `${k + 1}. `}${walk.title}`);
-      button.onclick = () => this.pickOut(k);
-      const item = element('li');
-      item.append(button);
-      return item;
-    }));
+    const isPicked = k === this.chosen || k === this.pointed, isDim = this.chosen !== null && !isPicked;
+    const width = isPicked ? PICKED : isPlain || this.walks.length > MANY_WALKS ? NARROW : WIDE;
+    return { edges, isPlain, isDim, isPicked, width, isHidden: !this.list.isShown(k) };
   }
 
   /** Picks walk k out, or no walk where it was picked out before. */
   pickOut(k) {
     this.chosen = this.chosen === k ? null : k;
-    $('list').querySelectorAll('button').forEach((button, j) => {
-      button.setAttribute('aria-pressed', String(j === this.chosen));
-    });
+    this.drawWalks();
+  }
+
+  /** Points at walk k, or at none. */
+  point(k) {
+    if (this.pointed === k) return;
+    this.pointed = k;
+    this.drawWalks();
+  }
+
+  /** Points at walk k, or at none, and says beside the place what it is called. */
+  name(k, x, y) {
+    const label = $('name');
+    label.hidden = k === null;
+    if (k !== null) {
+      label.textContent = nameOf(this.walks[k], k);
+      [label.style.left, label.style.top] = [`${x + 12}px`, `${y + 12}px`];
+    }
+    this.point(k);
+  }
+
+  /** Others of the walks are shown than before. */
+  changed() {
+    if (this.chosen !== null && !this.list.isShown(this.chosen)) this.chosen = null;
     this.drawWalks();
   }
 
   /** Marks faces, vertices and edges in place of those that are marked: see View. */
   mark(marks) {
     if (this.shape) this.view.setMarks(marks);
+  }
+
+  /** Colours faces by values, as scene.js has them, with a scale beside the picture; or by none. */
+  showValues(values) {
+    this.view.setValues(values);
+    this.showScale(values);
+  }
+
+  showScale(values) {
+    $('scale').hidden = !values;
+    if (!values) return;
+    for (const [name, text] of Object.entries({ low: values.low, high: values.high })) {
+      $(`scale-${name}`).textContent = String(Number(text.toPrecision(4)));
+    }
+    $('scale-label').textContent = values.label;
+    $('scale-bar').style.background = `linear-gradient(90deg, ${valueColour(0)}, ${valueColour(1)})`;
   }
 
   /** Shows names with their values. @param {[string, string | number][]} rows */

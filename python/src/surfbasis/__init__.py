@@ -37,6 +37,7 @@ from ._refusals import (  # noqa: E402
     WalkRefused,
     WordsRefused,
 )
+from ._showing import Shown  # noqa: E402
 from ._surface import Surface  # noqa: E402
 from ._version import VERSION as __version__  # noqa: E402
 
@@ -60,6 +61,7 @@ __all__ = [
     "Program",
     "Refused",
     "SewingRefused",
+    "Shown",
     "Surface",
     "SurfaceRefused",
     "TimedOut",

@@ -3,13 +3,41 @@
 from __future__ import annotations
 
 from dataclasses import dataclass, field
-from typing import Iterator, Optional, Sequence, Tuple, Union, overload
+from typing import TYPE_CHECKING, Any, Dict, Iterator, Optional, Sequence, Tuple, TypeVar, Union, overload
 
 import numpy as np
 
 from ._texts import Floats, Ints
 
+if TYPE_CHECKING:
+    from ._surface import Surface
+
 Polygons = Union[Ints, Tuple[Ints, ...]]
+
+
+@dataclass(frozen=True, eq=False)
+class OnSurface:
+    """An answer that a notebook shows on its surface, which a copy by pickle leaves behind."""
+
+    surface: Optional[Surface] = field(default=None, init=False, repr=False)
+
+    def _repr_html_(self) -> Optional[str]:
+        """The page that `surface.show` makes, where the surface is known and lies in space."""
+        if self.surface is None or self.surface.vertices is None:
+            return None
+        return self.surface.show(self)._repr_html_()
+
+    def __getstate__(self) -> Dict[str, Any]:
+        return {**self.__dict__, "surface": None}
+
+
+Answer = TypeVar("Answer", bound=OnSurface)
+
+
+def answer_on(surface: Surface, answer: Answer) -> Answer:
+    """An answer that knows its surface."""
+    object.__setattr__(answer, "surface", surface)  # its class lets nobody else change it
+    return answer
 
 
 @dataclass(frozen=True)
@@ -42,7 +70,7 @@ class Info:
 
 
 @dataclass(frozen=True, eq=False)
-class Walk:
+class Walk(OnSurface):
     """A closed walk along edges, with its exact length.
 
     vertices: shape (n,); each steps to the next, and the last to the first, which isn't repeated. A walk that stands
@@ -75,7 +103,7 @@ class Walk:
 
 
 @dataclass(frozen=True, eq=False)
-class Walks(Sequence[Walk]):
+class Walks(OnSurface, Sequence[Walk]):
     """Independent closed walks, the shortest first, with their exact total length.
 
     units:    the total, a whole number of units
@@ -112,7 +140,7 @@ class Walks(Sequence[Walk]):
 
 
 @dataclass(frozen=True, eq=False)
-class Distances:
+class Distances(OnSurface):
     """The distance of each vertex from a base along edges, and the tree of shortest walks there.
 
     units:    shape (n,), whole numbers of units
@@ -148,7 +176,7 @@ class Distances:
 
 
 @dataclass(frozen=True, eq=False)
-class Cut:
+class Cut(OnSurface):
     """A surface cut open into one disc. Its faces are those of the surface, in their order, over copies of the
     vertices.
 
@@ -169,7 +197,7 @@ class Cut:
 
 
 @dataclass(frozen=True, eq=False)
-class Evidence:
+class Evidence(OnSurface):
     """Why a closed walk bounds (mod 2), or why it doesn't; for `same`, why two walks do so together, or don't.
 
     bounds: whether it is the boundary of a set of faces

@@ -11,11 +11,12 @@ import numpy.typing as npt
 
 from . import _mending
 from ._advice import advice_in
-from ._answers import Cut, Distances, Evidence, Info, Polygons, Verdict, Walk, Walks
+from ._answers import Cut, Distances, Evidence, Info, Polygons, Verdict, Walk, Walks, answer_on
 from ._callers import Path, caller
 from ._faces import Faces, arrays_of, frozen, points_of
 from ._refusals import BaseRefused, LengthsRefused, refusal
 from ._rooms import Rooms
+from ._showing import Look, Shown
 from ._texts import NO_VERTEX, Floats, Ints, numbers_of, place_lines, token_lines
 
 MOST_DECIMALS = 9
@@ -371,6 +372,33 @@ class Surface:
             raise BaseRefused(7, f"base: {number} of {count}")
         return number
 
+    # ---- pictures
+
+    def show(
+        self,
+        shown: Any = None,
+        *,
+        values: Any = None,
+        label: str = "",
+        turn: float = 30.0,
+        tilt: float = 40.0,
+        title: str = "surfbasis",
+        height: int = 480,
+    ) -> Shown:
+        """The surface with an answer on it, to be turned: in a notebook as the last line of a cell, and by `save` in a
+        file of HTML.
+
+        shown:  as `plot.draw` takes it: Walks, a Walk, other walks, a Cut, Evidence, Distances or None
+        values: shape (n,) or (m,), a number for each vertex or face, by which faces are coloured
+        label:  what the scale says of the values
+        turn:   degrees about the upright axis at first; tilt: degrees from above the horizon
+        height: of the frame in a notebook, in pixels
+
+        >>> ring = Surface.from_file("meshes/ring.off")
+        >>> ring.show(ring.basis(), values=ring.distances(0).lengths, label="distance").save("ring.html")
+        """
+        return Shown(self, shown, Look(values, label, turn, tilt, title, height))
+
     # ---- questions
 
     def info(self) -> Info:
@@ -430,7 +458,8 @@ class Surface:
         """
         text = self._ask_lengths(f"dist M L {self._base(base)}", self._rooms().distances())
         rows = numbers_of(text.replace(b"-", b"-1")).reshape(-1, 3)
-        return Distances(int(base), frozen(rows[:, 1].copy()), frozen(rows[:, 2].copy()), self.decimals)
+        found = Distances(int(base), frozen(rows[:, 1].copy()), frozen(rows[:, 2].copy()), self.decimals)
+        return answer_on(self, found)
 
     def cut(self, base: int = 0, how: Any = "trim") -> Cut:
         """The surface cut open into one disc.
@@ -488,7 +517,8 @@ class Surface:
         >>> surface.classify(surface.cycle()).bounds
         False
         """
-        return _evidence(self._ask("class 1 2", [self._mesh(), _walk_line(walk)], self._rooms().evidence()))
+        text = self._ask("class 1 2", [self._mesh(), _walk_line(walk)], self._rooms().evidence())
+        return answer_on(self, _evidence(text))
 
     def same(self, walk: Any, other: Any) -> Evidence:
         """Whether two closed walks are homologous (mod 2), that is, bound together, with evidence.
@@ -498,7 +528,7 @@ class Surface:
         True
         """
         files = [self._mesh(), _walk_line(walk), _walk_line(other)]
-        return _evidence(self._ask("same 1 2 3", files, self._rooms().evidence()))
+        return answer_on(self, _evidence(self._ask("same 1 2 3", files, self._rooms().evidence())))
 
     def confirm(self, walk: Any, evidence: Union[Evidence, bytes, str]) -> Verdict:
         """Whether evidence of `classify` is right for the walk, whoever made it.
@@ -539,13 +569,14 @@ class Surface:
 
     def _walk(self, row: Sequence[bytes]) -> Walk:
         vertices = np.array(row[2:], dtype=np.int64)
-        return Walk(frozen(vertices[:-1] if len(vertices) > 1 else vertices), int(row[1]), self.decimals)
+        walk = Walk(frozen(vertices[:-1] if len(vertices) > 1 else vertices), int(row[1]), self.decimals)
+        return answer_on(self, walk)
 
     def _walks(self, text: bytes) -> Walks:
         walks = tuple(self._walk(row.split()) for row in text.splitlines()[2:])
         if self._hub is not None:
             walks = _off_the_hub(walks, self._hub)
-        return Walks(walks, sum(walk.units for walk in walks), self.decimals)
+        return answer_on(self, Walks(walks, sum(walk.units for walk in walks), self.decimals))
 
     def _opened(self, text: bytes) -> Cut:
         """The cut of a text whose vertex lines are all `0 0 0`."""
@@ -555,7 +586,8 @@ class Surface:
         origins = frozen(numbers_of(text[copies_at:].translate(None, b"#copyfrm"))[1::2].copy())
         corners = self._faces.corners_of(numbers_of(text[faces_at:copies_at]))
         places = None if self._points is None else frozen(self._points[origins])
-        return Cut(places, self._faces.shaped(frozen(corners)), origins, frozen(self._seams(corners, origins)))
+        seams = frozen(self._seams(corners, origins))
+        return answer_on(self, Cut(places, self._faces.shaped(frozen(corners)), origins, seams))
 
     def _seams(self, corners: Ints, origins: Ints) -> Ints:
         """The edges on the border of the disc. One end of each has several copies, since no cut is an edge alone."""

@@ -1,8 +1,10 @@
-"""Pictures of surfaces with walks, cuts or evidence on them: by matplotlib where it is there, and as PNG without it.
+"""Pictures of surfaces with answers on them: to be turned in a browser; or still, by matplotlib where it is there, and
+as PNG without it.
 
 >>> import surfbasis, surfbasis.plot
 >>> surface = surfbasis.Surface.from_file("meshes/eight.off")
 >>> surfbasis.plot.save("basis.png", surface, surface.basis())
+>>> surfbasis.plot.save("basis.html", surface, surface.basis())
 """
 
 from __future__ import annotations
@@ -15,8 +17,9 @@ from typing import Any, Iterable, List, NamedTuple, Tuple
 import numpy as np
 
 from . import _painting
-from ._answers import Cut, Evidence, Polygons, Walk
+from ._answers import Cut, Distances, Evidence, Polygons, Walk
 from ._callers import Path
+from ._showing import Look, Shown
 from ._surface import Surface
 from ._texts import Floats, Ints
 
@@ -71,7 +74,7 @@ def draw(
     """Draws a surface with what is shown on it, and returns the axes of matplotlib that it is drawn on.
 
     shown:  a Walk, Walks or other walks, each in a colour of its own; a Cut, whose seams are drawn; Evidence, whose
-            faces or edges are marked; or None
+            faces or edges are marked; Distances, which are values; or None
     values: shape (n,) or (m,), a number for each vertex or face, by which faces are coloured, dark where it is least
     axes:   axes of matplotlib; None makes some
     turn:   degrees about the upright axis; tilt: degrees from above the horizon
@@ -103,30 +106,43 @@ def save(
     turn: float = 30.0,
     tilt: float = 40.0,
     size: int = 600,
+    label: str = "",
 ) -> None:
     """Writes a picture of a surface with what is shown on it, as `draw` takes it, to a file.
 
-    size: the width and height in pixels
+    size:  the width and height in pixels, where it is no page
+    label: what the scale of a page says of the values
 
-    By matplotlib in any form that it knows, by the ending of the path; without it as PNG alone."""
+    By the ending of the path: `.html` is a page to be turned in a browser, which asks no other machine for anything;
+    all else is by matplotlib in any form that it knows, and without matplotlib `.png` alone."""
+    ending = os.fspath(path).rpartition(".")[2].lower()
+    if ending == "html":
+        Shown(surface, shown, Look(values, label, turn, tilt, pathlib.Path(path).stem)).save(path)
+        return
     try:
         import matplotlib.figure
     except ImportError:
-        if os.fspath(path).rpartition(".")[2].lower() != "png":
+        if ending != "png":
             raise
-        scene = scene_of(surface, shown, values, turn, tilt)
-        steps = [(line.edges, line.colour) for line in scene.lines]
-        pathlib.Path(path).write_bytes(_painting.png(scene.places, scene.faces, scene.colours, steps, LIFT, size))
+        pathlib.Path(path).write_bytes(png_of(scene_of(surface, shown, values, turn, tilt), size))
         return
     figure = matplotlib.figure.Figure(figsize=(6, 6))
     draw(surface, shown, values=values, axes=figure.add_axes((0, 0, 1, 1)), turn=turn, tilt=tilt)
     figure.savefig(os.fspath(path), dpi=size / 6)
 
 
+def png_of(scene: Scene, size: int) -> bytes:
+    """A PNG of a scene, made without matplotlib."""
+    steps = [(line.edges, line.colour) for line in scene.lines]
+    return _painting.png(scene.places, scene.faces, scene.colours, steps, LIFT, size)
+
+
 def scene_of(surface: Surface, shown: Any, values: Any, turn: float, tilt: float) -> Scene:
     """What `draw` and `save` draw."""
     if surface.vertices is None:
         raise ValueError("a surface without places can't be drawn")
+    if isinstance(shown, Distances):
+        shown, values = None, shown.lengths if values is None else values
     lines, marked = _marks(shown)
     if values is None:
         colours = np.tile(PLAIN, (len(surface.faces), 1))
