@@ -22,7 +22,7 @@ NAME = "surfbasis"
 TRIPLET = "x86_64-linux-gnu"
 MAINTAINER = "surf maintainers <surf@example.invalid>"
 # The tools for users of meshes, for sceptics and for whoever tries a program again; with them goes what they import.
-TOOLS = ["to_off", "show", "unfold", "plain_check"]
+TOOLS = ["to_off", "drop_handles", "show", "unfold", "plain_check"]
 TRIALS = ["run_cases"]
 LINK = re.compile(r"\]\(([^)#:]+)(?:#[^)]*)?\)|^\[[^\]]+\]: ([^\s:]+)$", re.M)
 NO_LICENCE = "No licence has been chosen so far. Until one is, nobody but the authors may pass this on."

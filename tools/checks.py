@@ -53,6 +53,7 @@ CHECKS = [
     Check("tools/check_walks.py"),
     Check("tools/check_certificates.py"),
     Check("tools/check_borders.py"),
+    Check("tools/check_handles.py"),
     Check("tools/hostile.py --only great", MEMORY),
     Check("tools/hostile.py --only diag"),
     Check("tools/check_sessions.py"),

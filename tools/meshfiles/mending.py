@@ -18,7 +18,7 @@ from . import arrays, plain
 from .holes import Hub, Rim, nearness, rims_of
 from .soup import MeshFileError, Soup, faces_of, is_array, quiet
 from .wedges import pairs_at
-from .writing import edges_of, faces_text, lengths_text, points_text
+from .writing import edges_of, lengths_text, map_text, mesh_text, points_text
 
 HOLES = ("keep", "close", "hub")
 MOST = ("faces", "area")
@@ -126,12 +126,11 @@ class Mended:
 
     def off_text(self) -> bytes:
         """The mesh as OFF. A comment at its end tells from which face and vertex on it was added to."""
-        border = 0 if self.first_added_face < len(self.starts) - 1 else sum(map(len, self.rims))
-        counts = f"OFF\n{len(self.points)} {len(self.starts) - 1} {(len(self.corners) + border) // 2}\n"
-        added = f"# added faces {self.first_added_face} vertices {self.first_added_vertex}\n"
         is_added = self.first_added_face < len(self.starts) - 1
-        text = points_text(self.points) + faces_text(self.corners, self.starts)
-        return counts.encode() + text + (added.encode() if is_added else b"")
+        border = 0 if is_added else sum(map(len, self.rims))
+        added = f"added faces {self.first_added_face} vertices {self.first_added_vertex}" if is_added else ""
+        lines = points_text(self.points)
+        return mesh_text(lines, self.corners, self.starts, (len(self.corners) + border) // 2, added)
 
     def lengths_text(self, decimals: int = 6) -> bytes:
         """A length file as `surf lengths` makes it, in which the edges of the hub have the greatest length that
@@ -140,8 +139,7 @@ class Mended:
 
     def map_text(self) -> bytes:
         """A line `v N` for each vertex and `f N` for each face: its number in the soup, or `-` where it is new."""
-        rows = [("v", n) for n in listed(self.vertex_origins)] + [("f", n) for n in listed(self.face_origins)]
-        return "".join(f"{word} {'-' if n < 0 else n}\n" for word, n in rows).encode()
+        return map_text(listed(self.vertex_origins), listed(self.face_origins))
 
 
 def listed(values: Any) -> List[int]:

@@ -11,6 +11,19 @@ GREATEST_LENGTH = 2**32 - 1
 DECIMALS = 9  # `surf lengths` cuts what stands behind the ninth
 
 
+def mesh_text(lines: bytes, corners: Any, starts: Any, edges: int, comment: str = "") -> bytes:
+    """A mesh as OFF, of the lines of its vertices, with a comment at its end where there is one."""
+    counts = "OFF\n%d %d %d\n" % (lines.count(b"\n"), len(starts) - 1, edges)
+    told = f"# {comment}\n" if comment else ""
+    return counts.encode() + lines + faces_text(corners, starts) + told.encode()
+
+
+def map_text(vertices: Sequence[int], faces: Sequence[int]) -> bytes:
+    """A line `v N` for each vertex and `f N` for each face, by the number that it had: `-` where it is new."""
+    rows = [("v", n) for n in vertices] + [("f", n) for n in faces]
+    return "".join(f"{word} {'-' if n < 0 else n}\n" for word, n in rows).encode()
+
+
 def points_text(points: Any) -> bytes:
     """A line for each point: three decimals of up to nine digits behind the point. Coordinates that are too great or
     all too small for that are written with all their digits."""
@@ -20,8 +33,13 @@ def points_text(points: Any) -> bytes:
         return _points_by_arrays(points)
     greatest: float = max(abs(x) for point in points for x in point)
     if not 1e-3 <= greatest < 1e9:
-        return "".join(f"{x!r} {y!r} {z!r}\n" for x, y, z in points).encode()
+        return exact_points_text(points)
     return "".join(f"{decimal(x)} {decimal(y)} {decimal(z)}\n" for x, y, z in points).encode()
+
+
+def exact_points_text(points: Sequence[Sequence[float]]) -> bytes:
+    """A line for each point with all digits, so that what was read is measured as it was in its file."""
+    return "".join(f"{x!r} {y!r} {z!r}\n" for x, y, z in points).encode()
 
 
 def decimal(x: float) -> str:
@@ -34,7 +52,7 @@ def decimal(x: float) -> str:
 def _points_by_arrays(points: Any) -> bytes:
     greatest = np.abs(points).max()
     if not 1e-3 <= greatest < 1e9:
-        return "".join(f"{x!r} {y!r} {z!r}\n" for x, y, z in points.tolist()).encode()
+        return exact_points_text(points.tolist())
     values = np.rint(points * 1e9).astype(np.int64).reshape(-1)
     signs, values = values < 0, np.abs(values)
     wide = max(1, len(str(int(values.max()) // 10**DECIMALS)))
