@@ -9,7 +9,7 @@ from typing import Any, Iterator, List, Optional, Sequence, Tuple, Union
 import numpy as np
 import numpy.typing as npt
 
-from . import _mending
+from . import _handles, _mending
 from ._advice import advice_in
 from ._answers import Cut, Distances, Evidence, Info, Polygons, Verdict, Walk, Walks, answer_on
 from ._callers import Path, caller
@@ -60,6 +60,7 @@ class Surface:
         self._edges: Optional[Ints] = None
         self._origins: Optional[_mending.Origins] = None
         self._hub: Optional[_mending.Hub] = None
+        self._removed: Optional[Walks] = None
         self._set_lengths(lengths, decimals)
 
     def _set_lengths(self, lengths: Any, decimals: Optional[int]) -> None:
@@ -198,6 +199,36 @@ class Surface:
         other._set_lengths(lengths, decimals)
         return other
 
+    def without_handles(
+        self, *, shorter_than: float, most: Optional[int] = None, closing: str = "faces"
+    ) -> Surface:
+        """The surface without its small handles: while a shortest nonseparating cycle is shorter than a bound, the
+        surface is cut along it, and each border is closed. What is left has no such cycle below the bound.
+
+        shorter_than: the bound, in the mesh's own unit
+        most:         no more than so many handles go, the shortest first; then shorter cycles may be left
+        closing:      "faces" closes each border by one face, "triangles" by triangles round a new vertex, whose edges
+                      are so long that no walk takes a short cut over them
+
+        Old edges keep their lengths, which are given to the new surface: `with_lengths()` measures them anew. Copies
+        of a vertex stand a hair apart. Old faces, and old vertices, keep their numbers; `vertex_origins` and
+        `face_origins` have those of copies, and `removed` the cycles. Takes up to 20,000 vertices (LimitRefused), those
+        of the answer included.
+
+        >>> eight = Surface.from_file("meshes/eight.off", decimals=6)
+        >>> ring = eight.without_handles(shorter_than=1.86)
+        >>> ring.info().genus, ring.cycle().length, [walk.length for walk in ring.removed]
+        (1, 1.88172, [1.854371])
+        """
+        if self._hub is not None:
+            raise ValueError("where a hub joins holes, no handles are taken off: close the holes, close=True")
+        done = _handles.without_handles(self, _handles.wanted(shorter_than, most, closing, self.decimals))
+        vertices = _handles.composed(self.vertex_origins, done.vertices)
+        faces = _handles.composed(self.face_origins, done.faces)
+        done.surface._origins = _mending.Origins(vertices, faces, (*self.notes, done.note()))
+        done.surface._removed = done.removed
+        return done.surface
+
     def __repr__(self) -> str:
         return f"<Surface: {self._count} vertices, {len(self._faces)} faces>"
 
@@ -275,20 +306,26 @@ class Surface:
 
     @property
     def vertex_origins(self) -> Optional[Ints]:
-        """For each vertex its number in the file or the arrays before mending, -1 where it is new, shape (n,). None
-        where nothing was mended."""
+        """For each vertex its number in the file or the arrays before mending or cutting, -1 where it is new, shape
+        (n,). None where nothing was mended or cut."""
         return None if self._origins is None else self._origins.vertices
 
     @property
     def face_origins(self) -> Optional[Ints]:
-        """For each face its number in the file or the arrays before mending, -1 where it is new, shape (m,). None
-        where nothing was mended."""
+        """For each face its number in the file or the arrays before mending or cutting, -1 where it is new, shape
+        (m,). None where nothing was mended or cut."""
         return None if self._origins is None else self._origins.faces
 
     @property
     def notes(self) -> Tuple[str, ...]:
-        """What was done to mend the mesh, a line each."""
+        """What was done to mend or to cut the mesh, a line each."""
         return () if self._origins is None else self._origins.notes
+
+    @property
+    def removed(self) -> Optional[Walks]:
+        """The cycles along which `without_handles` cut, in their order, by the vertices of the surface that was cut.
+        None where this isn't its answer."""
+        return self._removed
 
     # ---- texts
 
