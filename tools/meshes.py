@@ -1,5 +1,5 @@
 #!/usr/bin/env python3
-"""Makes the meshes with coordinates in `meshes/`: closed surfaces of genus 1, 2 and 3 in space.
+"""Makes the meshes with coordinates in `meshes/`: closed surfaces of genus 1, 2, 3 and 13 in space.
 
     python3 tools/meshes.py
 
@@ -7,6 +7,8 @@ Circles of radius 1 stand in a row in a plane, each touching the next. The surfa
 each circle gives it one hole and its genus is their number. It is cut out of a grid of cubes, each of six tetrahedra
 along its diagonal, which gives a closed surface of triangles whatever the grid is. Coordinates are written with seven
 decimals, as tools for meshes write them.
+
+`noisy.off` is a torus of squares with twelve small handles: tubes that arch from one square to another.
 
 Beside them stands `scan.ply`, a binary PLY of the surface of genus 2 as a scanner's tools would leave it: with three
 holes, with vertices that stand twice along a seam, and with a crumb that doesn't hang together with it.
@@ -94,8 +96,68 @@ def write(path, genus, points, triangles):
     with open(path, "w") as file:
         file.write(f"OFF\n{len(points)} {len(triangles)} {len(sides)}\n")
         file.writelines(line + "\n" for line in lines)
-        file.writelines(f"3 {a} {b} {c}\n" for a, b, c in triangles)
+        file.writelines(f"{len(t)} {' '.join(map(str, t))}\n" for t in triangles)
     print(f"{path}: {len(points)} vertices, {len(sides)} edges, {len(triangles)} faces")
+
+
+ROUND, ACROSS = 48, 20  # squares of the torus
+HANDLES = 12
+RINGS = 7  # of squares on a handle
+HEIGHT = 0.34  # how far the curves of a handle lead away from the torus
+# The corner of the second square to which each corner of the first leads, where they stand in one row round the torus,
+# or across.
+MIRRORED_ROUND, MIRRORED_ACROSS = (1, 0, 3, 2), (3, 2, 1, 0)
+
+
+def number(i, j):
+    return (i % ROUND) * ACROSS + j % ACROSS
+
+
+def normal(i, j):
+    u, v = 2 * math.pi * i / ROUND, 2 * math.pi * j / ACROSS
+    return math.cos(v) * math.cos(u), math.cos(v) * math.sin(u), math.sin(v)
+
+
+def on_torus(i, j):
+    u, height = 2 * math.pi * i / ROUND, 0.4
+    return tuple(x + height * n for x, n in zip((math.cos(u), math.sin(u), 0.0), normal(i, j)))
+
+
+def arch(start, end, part):
+    """A point of a cubic curve that leaves one place and reaches another along the normals there."""
+    (p, n), (q, m) = start, end
+    weights = [math.comb(3, k) * (1 - part) ** (3 - k) * part**k for k in range(4)]
+    places = p, [x + HEIGHT * y for x, y in zip(p, n)], [x + HEIGHT * y for x, y in zip(q, m)], q
+    return tuple(sum(w * place[k] for w, place in zip(weights, places)) for k in range(3))
+
+
+def square(i, j):
+    return (i, j), (i + 1, j), (i + 1, j + 1), (i, j + 1)
+
+
+def add_handle(points, faces, first, second):
+    """A tube from one square of the torus to another, in place of both. The squares stand in one row along it."""
+    mirrored = MIRRORED_ROUND if first[0] != second[0] else MIRRORED_ACROSS
+    ends = [(corner, square(*second)[other]) for corner, other in zip(square(*first), mirrored)]
+    rings = [[number(*a) for a, _ in ends]]
+    for ring in range(1, RINGS):
+        rings.append(range(len(points), len(points) + 4))
+        points += [arch(*((on_torus(*at), normal(*at)) for at in pair), ring / RINGS) for pair in ends]
+    rings.append([number(*b) for _, b in ends])
+    for one, other in zip(rings, rings[1:]):
+        faces += [(one[k - 1], one[k], other[k], other[k - 1]) for k in range(4)]
+
+
+def noisy():
+    """The points and the squares of a torus with small handles, half of them along it and half across."""
+    points = [on_torus(i, j) for i in range(ROUND) for j in range(ACROSS)]
+    squares = [(i, j) for i in range(ROUND) for j in range(ACROSS)]
+    pairs = [((4 * k, 7 * k % ACROSS), (4 * k + 3 * (k % 2), (7 * k + 4 * (1 - k % 2)) % ACROSS)) for k in range(HANDLES)]
+    gone = {at for pair in pairs for at in pair}
+    faces = [tuple(number(*at) for at in square(*where)) for where in squares if where not in gone]
+    for pair in pairs:
+        add_handle(points, faces, *pair)
+    return points, faces
 
 
 HOLES = [((-1.0, -1.0, 0.3), 0.4), ((3.0, 0.9, 0.2), 0.35), ((1.0, 0.3, 0.4), 0.25)]
@@ -138,6 +200,7 @@ def main():
         write(os.path.normpath(os.path.join(folder, name + ".off")), genus, points, triangles)
         if name == "eight":
             write_scan(os.path.normpath(os.path.join(folder, "scan.ply")), *scan(points, triangles))
+    write(os.path.normpath(os.path.join(folder, "noisy.off")), 13, *noisy())
 
 
 main()

@@ -3,24 +3,31 @@
 
     pictures.py [PROGRAM]      crates/surf/out/surf where none is named
 
-All but one are of meshes/eight.off, a surface of genus 2, with the lengths of its edges in space. That one is of
-meshes/scan.ply, a scan of it with holes.
+Most are of meshes/eight.off, a surface of genus 2, with the lengths of its edges in space. One is of meshes/scan.ply, a
+scan of it with holes. Those of small handles are of meshes/noisy.off and, where Debian's package libcgal-demo is
+installed, of its cheese.off; what is left of these is drawn with wide gaps in place of hairs.
 """
 
 import pathlib
 import subprocess
 import sys
+import tarfile
 import tempfile
 
+import drop_handles
 import show
 import unfold
-from meshfiles import mend, read_mesh
+from meshfiles import Soup, mend, read_bytes, read_mesh
+from meshfiles.handles import Shape, Wanted, take_off
 from off import Mesh, read_off
 
 TOP = pathlib.Path(__file__).resolve().parent.parent
 PICTURES = TOP / "docs" / "pictures"
 MESH = TOP / "meshes" / "eight.off"
 SCAN = TOP / "meshes" / "scan.ply"
+NOISY = TOP / "meshes" / "noisy.off"
+CHEESE = pathlib.Path("/usr/share/doc/libcgal-dev/data.tar.gz"), "data/meshes/cheese.off"
+WIDE = 0.02, 0.3  # a gap of a part of the diagonal, and of the way to what lies beside the cut
 # A vertex on top, where the two circles touch, from which the loops are seen.
 BASE = 353
 
@@ -40,6 +47,32 @@ def neck(mesh):
         walk.append(at)
         if at == start:
             return walk
+
+
+def cheese():
+    """The mesh of genus 133 in Debian's package libcgal-demo, or None where that isn't installed."""
+    archive, name = CHEESE
+    if not archive.is_file():
+        return None
+    with tarfile.open(archive) as tar:
+        return read_bytes(tar.extractfile(name).read(), name)
+
+
+def draw_handles(name, soup: Soup, limit, program, view):
+    """The cycles below so many millionths along which a mesh is cut, on the mesh, and what is left, with the faces that
+    close it marked. `view` is how far it is turned and tilted."""
+    shape = Shape(len(soup.points), [tuple(map(float, point)) for point in soup.points], soup.faces)
+    before = Mesh(shape.points, list(shape.faces))
+    with tempfile.TemporaryDirectory() as room:
+        surf = drop_handles.Surf(program, pathlib.Path(room))
+        surf.write("mesh", drop_handles.off_text(shape))
+        known = drop_handles.known_lengths(surf.answer("lengths", "mesh", "6"), shape.edges())
+        taken = take_off(shape, drop_handles.Finder(surf, known), Wanted(limit))
+    cuts, closing = show.Answer(), show.Answer()
+    cuts.walks = [[*cycle.vertices, cycle.vertices[0]] for cycle in taken.cycles]
+    closing.faces = {number for number, origin in enumerate(shape.face_origins) if origin < 0}
+    draw(f"{name}-cuts", before, cuts, *view)
+    draw(f"{name}-off", Mesh(shape.parted_points(*WIDE), shape.faces), closing, *view)
 
 
 def main():
@@ -79,6 +112,11 @@ def main():
     opened = read_off(trimmed)
     flat = Mesh([(x, y, 0) for x, y in unfold.unfolded(opened)], opened.faces)
     draw("flat", flat, show.Answer(), 0, 90)
+    draw_handles("noisy", read_mesh(NOISY), 1_000_000, program, (30, 50))
+    if cheese() is None:
+        print("the pictures of cheese.off aren't made, since libcgal-demo isn't here")
+    else:
+        draw_handles("cheese", cheese(), 37_500, program, (30, 40))
     return 0
 
 

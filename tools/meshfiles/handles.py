@@ -250,13 +250,13 @@ class Shape:
         self.faces += [[u, v, middle] for u, v in zip(rim, rim[1:] + rim[:1])]
         self.face_origins += [-1] * len(rim)
 
-    def parted_points(self) -> List[Tuple[float, ...]]:
+    def parted_points(self, hair: float = HAIR, share: float = SHARE) -> List[Tuple[float, ...]]:
         """The points, in which copies of one vertex stand a hair apart: each is moved towards what lies on its side of
         the cut, so that there is a gap between the borders."""
-        hair, points, beside = HAIR * diagonal(self.points), list(self.points), self._beside_copies()
+        points, beside, most = list(self.points), self._beside_copies(), hair * diagonal(self.points)
         for copies in self._copies():
             for number, copy in enumerate(copies, 1):
-                step = step_towards(points[copy], beside[copy], hair)
+                step = step_towards(points[copy], beside[copy], most, share)
                 # No two go equally far, so they come apart where they go the same way, too.
                 part = (1 + number / len(copies)) / 2
                 points[copy] = tuple(x + part * y for x, y in zip(points[copy], step))
@@ -287,12 +287,12 @@ def diagonal(points: Sequence[Sequence[float]]) -> float:
     return math.hypot(*(max(column) - min(column) for column in zip(*points)))
 
 
-def step_towards(place: Sequence[float], goals: Sequence[Sequence[float]], hair: float) -> List[float]:
-    """The step of a hair to the middle of the goals, but of no more than a small part of the way. Where there is no
-    way it is along an axis."""
+def step_towards(place: Sequence[float], goals: Sequence[Sequence[float]], most: float, share: float) -> List[float]:
+    """The step to the middle of the goals by a share of the way, and no more than so far. Where there is no way it is
+    along an axis."""
     way = [x - y for x, y in zip(mean(goals), place)] if goals else []
     size = math.hypot(*way)
-    return [min(hair, SHARE * size) * x / size for x in way] if size else [hair, 0.0, 0.0]
+    return [min(most, share * size) * x / size for x in way] if size else [most, 0.0, 0.0]
 
 
 class Taken(NamedTuple):
