@@ -281,6 +281,115 @@ class Loops(InObjectMode):
             self.assertLessEqual({"REGISTER", "UNDO"}, operator.bl_options)
 
 
+class Handles(InObjectMode):
+    def counts(self, thing):
+        data = thing.data
+        return len(data.vertices), len(data.edges), len(data.polygons)
+
+    def bound(self, thing):
+        """A length between the first two of the shortest basis."""
+        lengths = self.lengths(thing)
+        return (lengths[0] + lengths[1]) / 2
+
+    def lengths(self, thing):
+        places = np.array([vertex.co for vertex in thing.data.vertices])
+        walks = Printed(self, thing).walks("basis")
+        return sorted(float(np.linalg.norm(places[walk[1:]] - places[walk[:-1]], axis=1).sum()) for walk in walks)
+
+    def info(self, thing):
+        printed = Printed(self, thing)
+        return dict(row.split() for row in printed("info", "M").splitlines())
+
+    def test_one_of_two_handles(self):
+        for mode in ("OBJECT", "EDIT"):
+            with self.subTest(mode=mode):
+                thing = sample("eight")
+                shortest, bound = Printed(self, thing).walks("cycle")[0], self.bound(thing)
+                bpy.ops.object.mode_set(mode=mode)
+                self.assertEqual(bpy.ops.mesh.surf_remove_handles(shorter_than=bound), {"FINISHED"})
+                bpy.ops.object.mode_set(mode="OBJECT")
+                edges = len(shortest) - 1
+                self.assertEqual(self.counts(thing), (754 + edges, 2268 + edges, 1512 + 2))
+                self.assertEqual(self.info(thing)["genus"], "1")
+                self.assertGreater(self.lengths(thing)[0], 0.9999 * bound)
+                closing = [face for face in thing.data.polygons if face.select]
+                self.assertEqual([len(face.vertices) for face in closing], [edges, edges])
+                self.assertFalse(thing.data.validate())
+
+    def test_all_handles(self):
+        for name in ("ring", "eight", "three", "noisy"):
+            thing = sample(name)
+            bpy.ops.mesh.surf_remove_handles(shorter_than=100)
+            self.assertEqual(self.info(thing)["genus"], "0")
+            self.assertEqual(len({tuple(vertex.co) for vertex in thing.data.vertices}), len(thing.data.vertices))
+        bpy.ops.mesh.surf_remove_handles(shorter_than=100)
+        self.assertEqual(self.info(thing)["genus"], "0")
+
+    def test_normals_stay_coherent(self):
+        thing = sample("eight")
+        bpy.ops.mesh.surf_remove_handles(shorter_than=100)
+        sides = [tuple(side) for face in thing.data.polygons
+                 for side in zip(face.vertices, [*face.vertices[1:], face.vertices[0]])]
+        self.assertEqual(len(set(sides)), len(sides))
+
+    def test_what_belongs_to_faces_corners_and_edges_stays(self):
+        thing = sample("eight")
+        data = thing.data
+        for name in ("one", "other"):
+            data.materials.append(bpy.data.materials.new(name))
+        layer, names = data.uv_layers.new(name="places"), data.attributes.new("name", "INT", "FACE")
+        for face in data.polygons:
+            face.material_index, names.data[face.index].value = face.index % 2, face.index
+            for side in face.loop_indices:
+                layer.data[side].uv = (face.index / 2000, data.loops[side].vertex_index / 2000)
+        for edge in data.edges:
+            edge.use_seam = edge.index % 3 == 0
+        marked = {tuple(sorted(tuple(data.vertices[v].co) for v in edge.vertices)) for edge in data.edges if edge.use_seam}
+        bpy.ops.mesh.surf_remove_handles(shorter_than=self.bound(thing))
+        data = thing.data
+        seen = set()
+        for face in data.polygons:
+            if not face.select:
+                name = data.attributes["name"].data[face.index].value
+                seen.add(name)
+                self.assertEqual(face.material_index, name % 2)
+                uvs = [data.uv_layers[0].data[side].uv for side in face.loop_indices]
+                self.assertTrue(all(abs(u - name / 2000) < 1e-6 for u, _ in uvs))
+        self.assertEqual(seen, set(range(1512)))
+        near = lambda place: tuple(round(x, 3) for x in place)
+        wanted = {tuple(sorted(map(near, pair))) for pair in marked}
+        found = {tuple(sorted(near(data.vertices[v].co) for v in edge.vertices)) for edge in data.edges if edge.use_seam}
+        self.assertEqual(found, wanted)
+
+    def test_holes_and_parts(self):
+        things = [sample("eight", {5, 700}), sample("noisy"), primitive("uv_sphere")]
+        for thing in things:
+            thing.select_set(True)
+        bpy.context.view_layer.objects.active = things[0]
+        bpy.ops.object.join()
+        thing = things[0]
+        before = unwrapped.part_count(thing.data)
+        rims = self.rims(thing)
+        bpy.ops.mesh.surf_remove_handles(shorter_than=1)
+        self.assertEqual((unwrapped.part_count(thing.data), self.rims(thing)), (before, rims))
+        self.assertEqual(sum(face.select for face in thing.data.polygons), 24)
+
+    def rims(self, thing):
+        """How many edges have one face."""
+        sides = [key for face in thing.data.polygons for key in face.edge_keys]
+        return sum(sides.count(key) == 1 for key in set(sides))
+
+    def test_nothing_is_changed_where_no_handle_is_shorter(self):
+        thing = sample("eight")
+        select(thing, {3})
+        bpy.ops.mesh.surf_remove_handles(shorter_than=0.5)
+        self.assertEqual(self.counts(thing), (754, 2268, 1512))
+        self.assertTrue(thing.data.vertices[3].select)
+
+    def test_it_is_undone_in_one_step(self):
+        self.assertLessEqual({"REGISTER", "UNDO"}, bpy.ops.mesh.surf_remove_handles.bl_options)
+
+
 class Refusals(InObjectMode):
     def test_edges_of_three_faces(self):
         points = [(0, 0, 0), (1, 0, 0), (0, 1, 0), (0, 0, 1), (0, -1, 0)]

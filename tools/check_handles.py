@@ -181,6 +181,12 @@ def small_surfaces(trial):
     trial.becomes("squares.off", one, (12, 11), *all_of_it)
 
 
+def is_coherent(faces):
+    """Whether the two faces of each edge run it in opposite ways."""
+    steps = [step for face in faces for step in zip(face, face[1:] + face[:1])]
+    return len(set(steps)) == len(steps)
+
+
 def between_two_lengths(trial):
     """`eight` has cycles of 1.854371 and 1.88172 round its holes, so a bound between them leaves one."""
     said = ["1 handle taken off: 1.854371", "genus 2 before, genus 1 now"]
@@ -194,11 +200,14 @@ def between_two_lengths(trial):
     trial.expect("the old faces", old.faces, [[vertices[c] for c in face] for face in mesh.faces[:1512]])
     trial.expect("the cut", "cycle 1854371 68 73 75 76 78 155 154 149 148 70 68\n", trial.text_of("cycles"))
     trial.expect("the copies", sorted(map(int, "68 73 75 76 78 155 154 149 148 70".split())), sorted(vertices[754:]))
+    trial.expect("the old ways round", True, is_coherent(mesh.faces))
     trial.expect("equal places", len(mesh.points), len(set(mesh.points)))
     known = {tuple(row[:2]): row[2] for row in map(str.split, trial.text_of("eight.len").splitlines())}
     rows = [list(map(int, row.split())) for row in trial.text_of("len").splitlines()]
     found = {tuple(map(str, sorted((vertices[u], vertices[v])))): str(n) for u, v, n in rows}
     trial.expect("the lengths", known, found)
+    triangles = trial.run("eight.off", "--shorter-than", "1.9", "--triangles").stdout
+    trial.expect("the ways round of triangles", True, is_coherent(read_off(triangles).faces))
     said = ["2 handles taken off: 1.854371 1.88172", "genus 2 before, genus 0 now"]
     trial.becomes("eight.off", said, (754 + 20, 1512 + 4), "--shorter-than", "1.9")
     trial.becomes("eight.off", ["1 handle taken off: 1.854371", "genus 2 before, genus 1 now"], (764, 1514),

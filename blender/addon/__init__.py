@@ -1,4 +1,4 @@
-"""Blender add-on: seams that open each part of a mesh into one disc, and shortest loops, by surf."""
+"""Blender add-on: seams that open each part of a mesh into one disc, shortest loops, and small handles, by surf."""
 
 bl_info = {
     "name": "Surf: seams into one disc, shortest loops",
@@ -6,7 +6,7 @@ bl_info = {
     "version": (0, 0, 0),  # build.py puts that of surf here
     "blender": (2, 93, 0),
     "location": "Object > Surf, and in edit mode Mesh > Surf",
-    "description": "Marks seams that open each part into one disc; selects shortest loops and bases",
+    "description": "Marks seams that open each part into one disc; selects shortest loops; removes small handles",
     "category": "UV",
 }
 
@@ -15,9 +15,9 @@ import itertools
 import bmesh
 import bpy
 import numpy as np
-from bpy.props import BoolProperty, EnumProperty, IntProperty
+from bpy.props import BoolProperty, EnumProperty, FloatProperty, IntProperty
 
-from . import loops, seams
+from . import handles, loops, seams
 from .meshes import Mesh, Unfit
 
 
@@ -84,6 +84,50 @@ def select_only(context, vertices=(), edges=(), faces=()):
         for items, flags in zip((data.vertices, data.edges, data.polygons), (points, lines, areas)):
             items.foreach_set("select", flags)
         data.update()
+
+
+def rebuild(thing, change):
+    """Gives a mesh the new vertices and faces of a change, and selects the faces that close it."""
+    data, is_edited = thing.data, thing.mode == "EDIT"
+    drawn = bmesh.from_edit_mesh(data) if is_edited else bmesh.new()
+    if not is_edited:
+        drawn.from_mesh(data)
+    closing = redraw(drawn, change)
+    for item in itertools.chain(drawn.verts, drawn.edges, drawn.faces):
+        item.select = False
+    for face in closing:
+        face.select = True
+    if is_edited:
+        bmesh.update_edit_mesh(data)
+    else:
+        drawn.to_mesh(data)
+        drawn.free()
+        data.update()
+
+
+def redraw(drawn, change):
+    """Makes a change of a drawn mesh. What is new has all that belongs to what it is a copy of. The faces that close
+    the mesh."""
+    vertices, faces = list(drawn.verts), list(drawn.faces)
+    vertices += [drawn.verts.new((0, 0, 0), vertices[origin]) for origin in change.origins]
+    for vertex, place in zip(vertices, change.places.tolist()):
+        vertex.co = place
+    old = [faces[number] for number in change.faces]
+    for face, corners in zip(old, change.faces.values()):
+        copy_face(drawn, face, [vertices[corner] for corner in corners])
+    closing = [drawn.faces.new([vertices[corner] for corner in corners]) for corners in change.closing]
+    bmesh.ops.delete(drawn, geom=old, context="FACES")
+    return closing
+
+
+def copy_face(drawn, face, vertices):
+    """A face over other vertices, with all that belongs to the old one, its corners and its edges."""
+    made = drawn.faces.new(vertices, face)
+    for new, old in zip(made.loops, face.loops):
+        new.copy_from(old)
+        if new.edge is not old.edge:
+            new.edge.copy_from(old.edge)  # without its flags
+            new.edge.seam, new.edge.smooth = old.edge.seam, old.edge.smooth
 
 
 class Asking:
@@ -201,6 +245,27 @@ class MESH_OT_surf_select_homologous(Asking, bpy.types.Operator):
         return self.select_loops(context, [loop])
 
 
+class MESH_OT_surf_remove_handles(Asking, bpy.types.Operator):
+    """Cut along loops that don't separate each part and are shorter than a length, and close each cut by two faces"""
+
+    bl_idname, bl_label = "mesh.surf_remove_handles", "Remove Small Handles"
+    shorter_than: FloatProperty(
+        name="Shorter Than",
+        description="Handles with a loop shorter than this are removed, the shortest first",
+        default=0.1,
+        min=1e-6,
+        soft_max=10.0,
+        precision=4,
+        subtype="DISTANCE",
+    )
+
+    def answer(self, context, mesh):
+        change = handles.without_small_handles(mesh, self.shorter_than, self.by_length)
+        if change.lengths:
+            rebuild(context.object, change)
+        return {"INFO"}, change.told()
+
+
 class VIEW3D_MT_surf(bpy.types.Menu):
     bl_idname, bl_label = "VIEW3D_MT_surf", "Surf"
 
@@ -210,6 +275,7 @@ class VIEW3D_MT_surf(bpy.types.Menu):
 
 
 OPERATORS = MESH_OT_surf_mark_seams, MESH_OT_surf_select_loops, MESH_OT_surf_select_homologous
+OPERATORS += (MESH_OT_surf_remove_handles,)
 CLASSES = *OPERATORS, VIEW3D_MT_surf
 
 

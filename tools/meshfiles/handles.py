@@ -84,23 +84,26 @@ class Ring:
 class Side(NamedTuple):
     """What lies on one side of a cycle: at each of its vertices the faces there, and all edges that leave it on this
     side, from the cycle on. On a one-sided cycle what begins on one side comes back on the other, at its first
-    vertex."""
+    vertex. `along` tells of the two faces at its first edge, that on this side first, whether they run it as the cycle
+    does."""
 
     arcs: List[List[int]]
     leaving: List[Pair]
     is_two_sided: bool
+    along: Tuple[bool, bool]
 
 
 def side_of(cycle: Cycle, rings: Dict[int, Ring]) -> Side:
-    vertices = cycle.vertices
-    first = rings[vertices[0]].faces[vertices[1]][0]
+    vertices, ring = cycle.vertices, rings[cycle.vertices[0]]
+    first, second = ring.faces[vertices[1]]
     arcs, leaving, face = [], [], first  # type: List[List[int]], List[Pair], int
     for before, vertex, after in zip(vertices, vertices[1:] + vertices[:1], vertices[2:] + vertices[:2]):
         arc, passed = rings[vertex].between(face, before, after)
         arcs.append(arc)
         leaving += [(vertex, end) for end in passed]
         face = arc[-1]
-    return Side(arcs[-1:] + arcs[:-1], leaving, face == first)
+    along = ring.neighbours[first][1] == vertices[1], ring.neighbours[second][1] == vertices[1]
+    return Side(arcs[-1:] + arcs[:-1], leaving, face == first, along)
 
 
 def rings_at(faces: Sequence[Face], vertices: Iterable[int]) -> Dict[int, Ring]:
@@ -217,12 +220,12 @@ class Shape:
         for cycle, side in chosen:
             copies = [self._copied(vertex, arc) for vertex, arc in zip(cycle.vertices, side.arcs)]
             if side.is_two_sided:
-                self._close(cycle.vertices, cycle.units, closing)
-                self._close(copies, cycle.units, closing)
+                self._close(turned(cycle.vertices, side.along[1]), cycle.units, closing)
+                self._close(turned(copies, side.along[0]), cycle.units, closing)
             else:
                 # From the first copy on the border runs to the second vertex itself, and at its end back.
                 rim = copies[1:] + copies[:1] + cycle.vertices[1:] + cycle.vertices[:1]
-                self._close(rim, 2 * cycle.units, closing)
+                self._close(turned(rim, side.along[0]), 2 * cycle.units, closing)
 
     def _copied(self, vertex: int, arc: Sequence[int]) -> int:
         """Gives the faces of an arc a copy of their vertex, at the same place."""
@@ -235,7 +238,7 @@ class Shape:
         return copy
 
     def _close(self, rim: List[int], units: int, closing: str) -> None:
-        """Closes a border of this length. A walk over the middle of triangles is longer than half the border."""
+        """Closes a border of this length, against the way that the faces there run it. A walk over the middle of triangles is longer than half the border."""
         if closing == "faces":
             self.faces.append(list(rim))
             self.face_origins.append(-1)
@@ -277,6 +280,10 @@ class Shape:
             for copy in copies.intersection(face):
                 corners[copy].update(face)
         return {copy: [self.points[c] for c in sorted(some - copies or some)] for copy, some in corners.items()}
+
+
+def turned(rim: List[int], is_backwards: bool) -> List[int]:
+    return rim[::-1] if is_backwards else rim
 
 
 def mean(points: Sequence[Sequence[float]]) -> List[float]:
