@@ -371,9 +371,46 @@ def large(page: Page, checks: Checks, room: pathlib.Path):
     checks.expect("a mesh is dropped while a call runs", said.startswith("Done: 6 cycles"), said + page.fault())
 
 
+def handles(page: Page, checks: Checks, program: Program):
+    """The small handles of noisy.off: twelve below 0.6, in red where the slider says so, and what is left without."""
+    page.set_value("lengths", "space")
+    page.choose("basis")
+    page.open(MESHES / "noisy.off")
+    checks.expect("handles are offered with a basis", page.js("!document.getElementById('handles').hidden"))
+    checks.expect("and none is chosen", page.js("document.getElementById('handles-remove').disabled"))
+    before = page.shot()
+    page.set_value("handles-bound", "12")
+    said = page.js(text_of("handles-said"))
+    checks.expect("twelve are below the bound", re.fullmatch(r"Shorter than 0\.69\d+: 12 cycles, in red", said), said)
+    checks.expect("they are drawn in red", before != page.shot())
+    said = page.settled(lambda: page.press("handles-remove"))
+    facts, note = page.facts(), page.js(text_of("note"))
+    checks.expect("what is left has one handle", said.startswith("Done: 2 cycles") and facts["genus"] == "1", said)
+    good = note.startswith("12 handles taken off. The shortest cycle left that doesn't separate has 2.50")
+    checks.expect("it is told what was done", good, note)
+    name = "noisy-without-handles.off"
+    saved = page.saved(name, "save-mesh")
+    if program.path:
+        kind = program.said("info 1", saved).decode().split()
+        checks.expect("what is left can be saved", kind[-2:] == ["genus", "1"] and kind[5] == str(1272 + 24), kind)
+    said = page.open(page.room / name)
+    checks.expect("and opened again", said.startswith("Done: 2 cycles"), said + page.fault())
+    page.set_value("handles-bound", "2")
+    said = page.settled(lambda: page.press("handles-remove"))
+    checks.expect("the last handle goes", said.startswith("Done: The surface is a sphere"), said + page.fault())
+    checks.expect("then none is offered", page.js("document.getElementById('handles').hidden"))
+    page.choose("cycle")
+    said = page.settled(lambda: page.js(f"{page.button('Klein bottle')}.click()"))
+    checks.expect("nor with another answer", page.js("document.getElementById('handles').hidden"), said)
+    page.choose("basis")
+    page.set_value("handles-bound", "2")
+    page.settled(lambda: page.press("handles-remove"))
+    checks.expect("a bottle becomes a sphere", page.facts()["genus"] == "0", page.js(text_of("note")))
+
+
 def samples(page: Actions, checks: Checks):
     page.choose("basis")
-    for name, due in (("ring", 2), ("eight", 4), ("three", 6), ("Klein bottle", 2)):
+    for name, due in (("ring", 2), ("eight", 4), ("three", 6), ("noisy", 26), ("Klein bottle", 2)):
         press = f"(it => {{ it.focus(); it.click(); }})({page.button(name)})"
         said = page.settled(lambda: page.js(press))
         checks.expect(f"the sample {name}", said.startswith(f"Done: {due} cycles"), said + page.fault())
@@ -456,6 +493,11 @@ def pictures_of(page: Page, folder: pathlib.Path):
     (folder / "browser.png").write_bytes(page.picture())
     page.choose("trim")
     (folder / "browser-cut.png").write_bytes(page.picture())
+    page.choose("basis")
+    page.open(MESHES / "noisy.off")
+    page.set_value("handles-bound", "12")
+    (folder / "browser-handles.png").write_bytes(page.picture())
+    page.open(MESHES / "eight.off")
     page.ask("Emulation.setEmulatedMedia", features=[{"name": "prefers-color-scheme", "value": "dark"}])
     page.choose("loops")
     (folder / "browser-dark.png").write_bytes(page.picture())
@@ -476,6 +518,7 @@ def tried(path: pathlib.Path, program: pathlib.Path | None, room: pathlib.Path, 
         refusals(page, checks, room)
         red_on_the_mesh(page, checks, room)
         samples(page, checks)
+        handles(page, checks, told)
         large(page, checks, room)
         if pictures:
             pictures_of(page, pictures)

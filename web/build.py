@@ -28,7 +28,7 @@ import bundle  # noqa: E402
 import libraries  # noqa: E402
 from proof import Refused, kit_folder  # noqa: E402
 
-SAMPLES = ["ring", "eight", "three"]
+SAMPLES = ["ring", "eight", "three", "noisy"]
 
 # Pointers, sizes and the order of bytes are those of x86-64, so the code may run under this layout as well.
 LAYOUT = "e-m:e-p:64:64-p10:8:8-p20:8:8-i64:64-i128:128-n32:64-S128-ni:1:10:20"

@@ -13,9 +13,10 @@ PAGE = pathlib.Path(__file__).resolve().parent / "page"
 # The modules of the viewer, of the page around it, of a file that shows a picture, and of the page's worker, each
 # behind those that it imports from.
 VIEWER = ["units", "walks", "dom", "paint", "camera", "gl", "plain", "view", "flat", "walklist", "viewer"]
-FINDER = ["refusals", "commands", "form", "faults", "mended", "session", "work", "finder", "samples", "main"]
+FINDER = ["refusals", "commands", "form", "faults", "mended", "session", "work", "finder", "handles"]
+FINDER += ["samples", "main"]
 PICTURE = ["lines", "readers", "mend", "shape", "opened", "unfold", "scene", "picture"]
-WORKER = ["lines", "readers", "mend", "shape", "opened", "unfold", "program", "worker"]
+WORKER = ["lines", "readers", "mend", "shape", "opened", "unfold", "surgery", "cycles", "program", "worker"]
 
 
 def joined(names: list[str]) -> str:

@@ -13,8 +13,10 @@ program, Chromium, WebKit with its driver. None of these belongs to the set-up b
 import argparse
 import importlib.util
 import json
+import math
 import os
 import pathlib
+import random
 import shutil
 import subprocess
 import sys
@@ -162,6 +164,47 @@ def compared(calls, answers, program, room) -> int:
     return wrong
 
 
+def taken_by_tool(program, folder, number, chance):
+    """A small surface in files, how the page's modules are to try it, and what the tool in Python makes of it."""
+    import check_handles
+    import drop_handles
+    from meshfiles.handles import Shape, Wanted, take_off
+
+    count, faces, known = check_handles.some_surface(chance)
+    limit = chance.choice([2, 3, 5, 10, 30, 100, 1000, math.inf])
+    shape = Shape(count, [(float(v), 0.0, 0.0) for v in range(count)], faces)
+    names = f"{number}.off", f"{number}.len"
+    (folder / names[0]).write_bytes(drop_handles.off_text(shape))
+    (folder / names[1]).write_text("".join(f"{u} {v} {n}\n" for (u, v), n in known.items()))
+    trial = {"mesh": names[0], "lengths": names[1], "limit": None if limit == math.inf else limit}
+    finder = drop_handles.Finder(drop_handles.Surf(program, folder), known)
+    return trial, (shape, known, take_off(shape, finder, Wanted(limit)))
+
+
+def handles_against_tool(wasm, program, room) -> int:
+    """The number of small surfaces that the page's modules leave otherwise without handles than the tool in Python."""
+    sys.path.append(str(TOP / "tools"))
+    chance, folder = random.Random(3), room / "handles"
+    folder.mkdir()
+    trials, due = zip(*(taken_by_tool(program, folder, number, chance) for number in range(200)))
+    (folder / "trials.json").write_text(json.dumps(trials))
+    subprocess.run(["node", WEB / "surgery.mjs", wasm, folder], check=True)
+    answers = json.loads((folder / "answers.json").read_text())
+    wrong = sum(not is_same_surgery(found, *wanted) for found, wanted in zip(answers, due, strict=True))
+    print(f"web: handles of {len(due)} surfaces, {wrong} taken off otherwise than by the tool")
+    return wrong
+
+
+def is_same_surgery(found, shape, known, taken) -> bool:
+    """Whether the page's modules leave what the tool leaves."""
+    lengths = "".join(f"{u} {v} {n}\n" for (u, v), n in zip(shape.edges(), shape.units(known)))
+    points = [x for point in shape.parted_points() for x in point]
+    same = found["taken"] == [cycle.units for cycle in taken.cycles] and found["oneSided"] == taken.one_sided
+    same = same and found["left"] == (taken.left and taken.left.units) and found["lengths"] == lengths
+    same = same and found["faces"] == shape.faces and found["origins"] == shape.vertex_origins
+    return same and max(abs(x - y) for x, y in zip(points, found["points"], strict=True)) < 1e-12
+
+
 def without_memory(wasm, room) -> int:
     """1 where want of memory isn't told as such, or the call behind it isn't answered."""
     (room / "tet").write_bytes((TOP / "meshes/tet.off").read_bytes())
@@ -233,6 +276,7 @@ def main():
             wrong += without_memory(folder / "surf.wasm", given.room)
             if given.program:
                 wrong += module_against_program(folder / "surf.wasm", given.program, given.room)
+                wrong += handles_against_tool(folder / "surf.wasm", given.program, given.room)
         if folder:
             wrong += in_chromium(folder, given)
             wrong += in_webkit(folder, given)

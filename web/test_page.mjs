@@ -15,6 +15,7 @@ import { Session, Stopped } from './page/session.js';
 import { WALKS } from './page/paint.js';
 import { readScene } from './page/scene.js';
 import { walkOf } from './page/walks.js';
+import { Surgery, takeOff } from './page/surgery.js';
 
 const POINTS = [[0, 0, 0], [1, 0, 0], [0, 1, 0], [0, 0, 1]];
 const FACES = [[0, 1, 2], [0, 3, 1], [0, 2, 3], [1, 3, 2]];
@@ -331,4 +332,46 @@ test('neighbours in the list have colours that all eyes tell apart', () => {
       });
     }
   }
+});
+
+/** A torus of 3 by 3 squares that stand on a plane, or a bottle, whose last row is glued turned over. */
+function squares(isBottle) {
+  const at = (i, j) => (i < 3 ? i * 3 + (j % 3) : isBottle ? (6 - j) % 3 : j % 3), faces = [];
+  for (let i = 0; i < 3; i++) {
+    for (let j = 0; j < 3; j++) faces.push([at(i, j), at(i + 1, j), at(i + 1, j + 1), at(i, j + 1)]);
+  }
+  return meshOf(Array.from({ length: 9 }, (_, v) => [v % 3, Math.floor(v / 3), 0]), faces);
+}
+
+/** What is left when these cycles, the first of a basis, are there at the first look, and none at the next. */
+function left(mesh, ...basis) {
+  const cycles = basis.map((vertices) => ({ units: vertices.length, vertices })), surgery = new Surgery(mesh);
+  const finder = { cycle: (it) => (it.vertexOrigins.length > 9 ? null : cycles[0]), basis: () => cycles };
+  return { surgery, done: takeOff(surgery, finder, 4) };
+}
+
+const isClosed = (mesh) => matesOf(mesh).mates.every((mate) => mate >= 0);
+const characteristic = (mesh) => mesh.points.length / 3 - matesOf(mesh).edges.length / 2 + mesh.starts.length - 1;
+
+test('a torus becomes a sphere by a cut and two faces', () => {
+  const { surgery, done } = left(squares(false), [0, 1, 2], [0, 3, 6]), mesh = surgery.mesh();
+  assert.deepEqual(done, { taken: [3], oneSided: 0, left: null });
+  assert.deepEqual([mesh.points.length / 3, mesh.starts.length - 1, characteristic(mesh)], [12, 11, 2]);
+  assert.ok(isClosed(mesh));
+  assert.deepEqual(surgery.vertexOrigins, [0, 1, 2, 3, 4, 5, 6, 7, 8, 0, 1, 2]);
+  const steps = facesOf(mesh).flatMap((face) => face.map((v, k) => `${v} ${face[(k + 1) % face.length]}`));
+  assert.equal(new Set(steps).size, steps.length, 'the faces of each edge run it in opposite ways');
+  const points = surgery.partedPoints(), places = [0, 1, 2].map((v) => [v, 9 + v].map((w) => points.slice(3 * w, 3 * w + 3)));
+  for (const [one, other] of places) {
+    assert.notDeepEqual(one, other);
+    assert.ok(Math.hypot(...one.map((x, c) => x - other[c])) < 1e-3);
+  }
+});
+
+test('a one-sided cycle leaves one face', () => {
+  const { surgery, done } = left(squares(true), [0, 3, 6]), mesh = surgery.mesh();
+  assert.deepEqual(done, { taken: [3], oneSided: 1, left: null });
+  assert.deepEqual([mesh.points.length / 3, mesh.starts.length - 1, characteristic(mesh)], [12, 10, 1]);
+  assert.ok(isClosed(mesh));
+  assert.equal(facesOf(mesh).at(-1).length, 6);
 });

@@ -27,8 +27,13 @@ export class Finder {
     this.work.changed = () => this.showButtons();
     this.work.failed = (fault) => this.failed(fault);
     viewer.view.pick = (vertex) => this.pick(vertex);
-    /** What is known of the mesh: `measured` are the decimals with which the worker has its lengths. */
-    this.mesh = { name: '', counts: null, decimals: undefined, measured: undefined };
+    /** Is told what is shown: an answer, or nothing. */
+    this.shown = () => {};
+    /**
+     * What is known of the mesh: `measured` are the decimals with which the worker has its lengths, and `text` is the mesh
+     * where the page made it.
+     */
+    this.mesh = { name: '', counts: null, decimals: undefined, measured: undefined, text: null };
     this.forget();
   }
 
@@ -94,6 +99,8 @@ export class Finder {
     $('certify').hidden = isBare || !canCertify;
     $('certify').textContent = confirm ? 'Check the evidence' : 'Make a certificate and check it';
     $('save-certificate').hidden = isBusy || !this.certificate;
+    $('save-mesh').hidden = isBusy || !this.mesh.text;
+    $('handles').disabled = isBusy;
   }
 
   // What goes wrong.
@@ -106,6 +113,7 @@ export class Finder {
     this.viewer.showWalks([]);
     this.viewer.showDisc(null);
     this.showMarks();
+    this.shown(null);
     this.showButtons();
   }
 
@@ -163,7 +171,7 @@ export class Finder {
   }
 
   takeShape(shape) {
-    Object.assign(this.mesh, { counts: null, measured: undefined });
+    Object.assign(this.mesh, { counts: null, measured: undefined, text: null });
     this.viewer.showMesh(shape, this.mesh.name);
     this.setVertices(command().asks === 'one' ? [0] : []);
     this.clearAnswer();
@@ -274,6 +282,7 @@ export class Finder {
     this.viewer.showFacts([...this.mesh.counts, ...facts, ['time', time]]);
     this.viewer.showWalks(walks);
     this.showMarks({ faces: [...faces] });
+    this.shown({ walks });
     this.done = text;
     tell(`Done: ${text}`);
     this.viewer.describe(`The mesh ${this.mesh.name}, and on it ${text}`);

@@ -7,8 +7,9 @@ import { kleinBottle } from './samples.js';
 import { Viewer } from './viewer.js';
 import { Session } from './session.js';
 import { Finder, tell } from './finder.js';
+import { Handles } from './handles.js';
 
-const SAMPLES = { ring: 'genus 1', eight: 'genus 2', three: 'genus 3', 'Klein bottle': 'one side' };
+const SAMPLES = { ring: 'genus 1', eight: 'genus 2', three: 'genus 3', noisy: 'genus 13', 'Klein bottle': 'one side' };
 
 const decoded = (bytes) => new TextDecoder().decode(bytes);
 
@@ -78,6 +79,7 @@ async function begin() {
   showSamples(finder);
   if (COMMANDS[asked.get('do')]) $('command').value = asked.get('do');
   listen(finder);
+  new Handles(finder);
   finder.showFields();
   finder.showButtons();
   tell('Ready');

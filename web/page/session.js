@@ -88,6 +88,13 @@ export class Session {
     return shape;
   }
 
+  /** Takes off the handles that are shorter than so many units. What is left stands in place of the file, by this name. */
+  async takeOff(limit, lengths, name) {
+    const shape = await this.ask('takeOff', { limit, lengths });
+    this.opened = { file: { name, blob: new Blob([shape.text]) }, mends: [] };
+    return shape;
+  }
+
   /** A call of the program; its text as a string, too. */
   async call(words, files, more = {}) {
     const said = await this.ask('call', { words, files, ...more });

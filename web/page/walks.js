@@ -3,8 +3,8 @@ import { plural, shownLength } from './units.js';
 
 /**
  * What is drawn in one colour and is a row of the list: the ends of its edges, two numbers each, and its vertices and
- * length where it is a walk. A plain one has no number and the ink of a mark.
- * @typedef {{edges: Uint32Array, vertices: number[], title: string, length?: number, isPlain?: boolean}} Walk
+ * length, also in units, where it is a walk. A plain one has no number and the ink of a mark.
+ * @typedef {{edges: Uint32Array, vertices: number[], title: string, units?: number, length?: number, isPlain?: boolean}} Walk
  */
 
 /** The ends of a walk's edges, two numbers each. */
@@ -21,5 +21,6 @@ export function edgesOfWalk(walk) {
 export function walkOf(vertices, units, decimals) {
   const count = plural(vertices.length - 1, 'edge');
   const title = decimals === null ? count : `length ${shownLength(units, decimals)}, ${count}`;
-  return { edges: edgesOfWalk(vertices), vertices, title, length: Number(units) / 10 ** decimals };
+  const size = Number(units);
+  return { edges: edgesOfWalk(vertices), vertices, title, units: size, length: size / 10 ** decimals };
 }

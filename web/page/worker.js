@@ -5,6 +5,8 @@ import { closed, largest, merged, offOf, split, tidy } from './mend.js';
 import { shapeOf } from './shape.js';
 import { readOpened } from './opened.js';
 import { unfold } from './unfold.js';
+import { Surgery, takeOff } from './surgery.js';
+import { Cycles } from './cycles.js';
 import { Program, wantOfMemory } from './program.js';
 
 const encoder = new TextEncoder();
@@ -34,6 +36,23 @@ class Refused extends Error {
   constructor(said) {
     super('refused');
     this.said = said;
+  }
+}
+
+/** What the program says to words and files; where it refuses that is thrown. */
+function asked(words, files) {
+  const said = state.program.call(words, files);
+  if (said.status > 1) throw new Refused(said);
+  return said.text;
+}
+
+/** What a task answers, or what the program said where it refused. */
+function orRefused(task) {
+  try {
+    return task();
+  } catch (fault) {
+    if (fault instanceof Refused) return fault.said;
+    throw fault;
   }
 }
 
@@ -93,7 +112,7 @@ const does = {
 
   /** The closed walk through these vertices, from each to the next by a shortest way; it becomes the file `walk`. */
   walk({ vertices, lengths }) {
-    try {
+    return orRefused(() => {
       const walk = [vertices[0]];
       vertices.forEach((u, k) => {
         const v = vertices[(k + 1) % vertices.length];
@@ -101,10 +120,21 @@ const does = {
       });
       state.files.set('walk', encoder.encode(`${walk.join(' ')}\n`));
       return { walk: Uint32Array.from(walk) };
-    } catch (fault) {
-      if (fault instanceof Refused) return fault.said;
-      throw fault;
-    }
+    });
+  },
+
+  /**
+   * Takes off the handles that are shorter than so many units; old edges stay as long as they are. Answers what is left,
+   * its text, and what went.
+   */
+  takeOff({ limit, lengths }) {
+    return orRefused(() => {
+      const cycles = new Cycles(asked, lengths === 'unit' ? null : state.files.get('lengths'));
+      const surgery = new Surgery(state.mesh), done = takeOff(surgery, cycles, limit), kept = cycles.lengthsOf(surgery);
+      setMesh(surgery.mesh(surgery.partedPoints()));
+      if (kept) state.files.set('lengths', kept);
+      return { kind: state.kind, ...shapeOf(state.mesh), ...done, text: state.files.get('mesh').slice() };
+    });
   },
 
   /** Reads the cut that stands in the file `cut`. */
