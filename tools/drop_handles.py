@@ -64,7 +64,7 @@ class Surf:
         return next(iter(self.cycles("cycle", mesh, lengths)), None)
 
     def cycles(self, word, mesh, lengths):
-        rows = (row.split() for row in self.answer(word, mesh, lengths).splitlines())
+        rows = (row.split() for row in self.answer(word, mesh, lengths, "large").splitlines())
         return [Cycle(int(row[1]), list(map(int, row[2:-1]))) for row in rows if row[0] == "cycle"]
 
 
