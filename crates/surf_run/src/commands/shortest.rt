@@ -86,8 +86,8 @@ fn answer_within<S: Shelf>(
     mesh: &str,
     asked: Asked<'_>,
 ) -> Result<Answered, Refused>
-    requires loops { asked.entry.most_loops ≤ MAX_LARGE_COVER_LOOPS }
-    requires nodes { asked.entry.most_nodes ≤ MAX_LARGE_COVER_NODES }
+    requires loops { asked.most_loops ≤ MAX_LARGE_COVER_LOOPS }
+    requires nodes { asked.most_nodes ≤ MAX_LARGE_COVER_NODES }
     ensures holds { S.holds shelf.new ≡ S.holds shelf.old }
     ensures later { S.faults shelf.old ≤ S.faults shelf.new }
     ensures tells { ConcludesOver (S.holds shelf.old) (S.faults shelf.old) (S.faults shelf.new)
@@ -107,8 +107,8 @@ fn answer_on<S: Shelf>(
     mesh: &HalfMesh,
     asked: Asked<'_>,
 ) -> Result<Answered, Refused>
-    requires loops { asked.entry.most_loops ≤ MAX_LARGE_COVER_LOOPS }
-    requires nodes { asked.entry.most_nodes ≤ MAX_LARGE_COVER_NODES }
+    requires loops { asked.most_loops ≤ MAX_LARGE_COVER_LOOPS }
+    requires nodes { asked.most_nodes ≤ MAX_LARGE_COVER_NODES }
     ensures holds { S.holds shelf.new ≡ S.holds shelf.old }
     ensures later { S.faults shelf.old ≤ S.faults shelf.new }
     ensures tells { (name bytes : List ℕ) (parts : OffParts) → HoldsSurface (S.holds shelf.old) name

@@ -12,6 +12,6 @@ returns-clause-tells g c =
     let read = c.in_ok-mesh in
     let held = read.ensures.held in
     resumed (g.S.Shelf.faults c.answer_on.new.shelf)
-    (λ files. OnCovered c.args.asked.entry.most_loops c.args.asked.entry.most_nodes c.args.mesh.now c.args.asked.entry.lengths.now c.args.asked.entry.walk.now files (λ read. GivesShortestWalk read.1))
+    (λ files. OnCovered c.args.asked.most_loops c.args.asked.most_nodes c.args.mesh.now c.args.asked.lengths.now c.args.asked.walk.now files (λ read. GivesShortestWalk read.1))
     read.ensures.holds read.ensures.later c.answer_on.result
     (c.answer_on.ensures.tells c.args.mesh.now held.0 held.1 held.2)
