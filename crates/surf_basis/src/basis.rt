@@ -99,6 +99,8 @@ fn basis_over(
     requires lengths { length surface.now.lengths.now ≡ edge_count surface.now.mesh.now }
     requires signed { AreSigned surface.now.mesh.now surface.now.signatures.now count }
     requires vertices { All (λ v. v < surface.now.mesh.now.vertices) vertices.now }
+    requires left { All (λ e. e < edge_count surface.now.mesh.now)
+        surface.now.signatures.now.left }
     requires met { MeetsAll surface.now.mesh.now (is_among vertices.now) }
     requires full { IsLoopCount surface.now.mesh.now count }
     requires few { count ≤ MAX_LOOPS }
@@ -106,7 +108,8 @@ fn basis_over(
         (as_loops cycles.items)) }
 {
     let mut finder = Finder::make(alloc, surface)?;
-    let search = sufficient_loops(alloc, surface, vertices, &mut finder, count)?;
+    let edges = surface.signatures.left();
+    let search = sufficient_loops(alloc, surface, vertices, edges, &mut finder, count)?;
     basis_from(alloc, surface, &mut finder, search.kept(), count)
 }
 

@@ -41,7 +41,7 @@ pub use Rattle.surf_search.specs.Passing.{is_marked, spare_of}
 pub use Rattle.surf_search.specs.Places.{AreDistances, HavePlacesOfBasis, has_length, is_placed, lengths_at, radius_of}
 pub use Rattle.surf_search.specs.Rounds.{AreAsks, AreCapped, AreDone, AreFalling, AreKeptTo, AreKeptUpTo, AreLongerOr, AreNoLess}
 pub use Rattle.surf_search.specs.Rounds.{AreRaisedTo, AreRising, HasCappedEnd, IsAsked, IsBarring, IsCapped, IsKeptAt}
-pub use Rattle.surf_search.specs.Rounds.{IsWider, KeepsInRound, cap_at, fall_order, in_caps, in_round, is_within_cap}
+pub use Rattle.surf_search.specs.Rounds.{IsWider, KeepsInRound, StaysEnough, cap_at, fall_order, in_caps, in_round, is_within_cap}
 pub use Rattle.surf_search.specs.Rounds.{told_by, told_of}
 pub use Rattle.surf_search.specs.Signing.{AreSignatures, AreSigned}
 pub use Rattle.surf_search.specs.Walks.{AddsWay, AreWalksOf, AreWritten, AreWrittenTo, HasReachedEnds, IsLoopWalk}

@@ -1,5 +1,5 @@
 -- Rounds: what is kept of their searches, and in the end has the places of the basis.
-use Rattle.surf_search.proofs.Common.{◌≡◌, ℕ, ◌<◌, max, ◌≤◌, ◌≢◌, ◌*◌, ◌^◌, ◌⊎◌, get_or-set_same, get_or-set_other, Bool, true, false, eqb, leb, le-leb, leb-true, not, List, [], length, get_or, set, All, eq-eqb, edge_count, Found, is_no_later, merge, get_or_default, no_member, Option, refl, sym, ap, ◌∙◌, subst, arith, inl, inr, IsTrue, ◌&&◌, cases_Bool, cases_eq, cases_lt, or_cases, or_left, or_right, and_parts, and_from, false≢true, Tree, IsSurface, ArePositive, IsLoopCount, MeetsAll, Place, get_or_past, choice_exists, least_base_on_way, shortest_trees, AgreeOff, with_near_places, Sought, AreSoughtFromStart, MeetsUpTo, either, everywhere, with_places, either_start, on_set_start, Candidate, Signed, Chosen, signed_earlier, independent_of, limit_of, SurfaceTables, AreFound, is_among, is_marked, AreMarkedNear, AreNoShorter, spare_of, HavePlacesOfBasis, is_placed, is_within_cap, cap_at, in_caps, in_round, IsCapped, AreKeptTo, AreKeptUpTo, AreCapped, IsKeptAt, IsBarring, KeepsInRound, AreLongerOr, AreNoLess, AreDone, AreRaisedTo, fall_order, AreSigned, sorted_by_number}
+use Rattle.surf_search.proofs.Common.{◌≡◌, ℕ, ◌<◌, max, ◌≤◌, ◌≢◌, ◌*◌, ◌^◌, ◌⊎◌, get_or-set_same, get_or-set_other, Bool, true, false, eqb, leb, le-leb, leb-true, not, List, [], length, get_or, set, All, eq-eqb, edge_count, Found, is_no_later, merge, get_or_default, no_member, Option, refl, sym, ap, ◌∙◌, subst, arith, inl, inr, IsTrue, ◌&&◌, cases_Bool, cases_eq, cases_lt, or_cases, or_left, or_right, and_parts, and_from, false≢true, Tree, IsSurface, ArePositive, IsLoopCount, MeetsAll, Place, get_or_past, choice_exists, least_base_on_way, shortest_trees, AgreeOff, with_near_places, Sought, AreSoughtFromStart, MeetsUpTo, either, everywhere, with_places, either_start, on_set_start, Candidate, Signed, Chosen, signed_earlier, independent_of, limit_of, SurfaceTables, AreFound, is_among, is_marked, AreMarkedNear, AreNoShorter, spare_of, HavePlacesOfBasis, is_placed, is_within_cap, cap_at, in_caps, in_round, IsCapped, AreKeptTo, AreKeptUpTo, AreCapped, IsKeptAt, IsBarring, KeepsInRound, AreLongerOr, AreNoLess, AreDone, AreRaisedTo, StaysEnough, fall_order, AreSigned, sorted_by_number}
 use Rattle.surf_search.proofs.Asked.{caps_meet, cut_meets, raised_kept, capped_places, within_by_none, within_by_size, within_more}
 use Rattle.surf_search.proofs.Capped.{within_start, within_zero, is_beyond, kept_begun, kept_fewer, kept_next, kept_near}
 use Rattle.surf_search.proofs.Capping.{capped_more}
@@ -252,6 +252,17 @@ begun_at f caps z old new limit surface positive few_v few_e zero_is some room c
     ])
     (searched_here f f.lengths surface positive positive few_v few_e (λ e e_in. omega arith) no_member
     (λ e e_in low high. refl) z all (omega (arith, zero_is, some)) (in_caps caps) (λ y. within_start (cap_at caps y))
+    (λ n p in_set on. absurd (false≢true in_set)) old new limit capped next kept)
+
+-- a search from any vertex, as far as any cap, keeps what is enough
+pub probed : (f : SurfaceTables) (z cap : ℕ) (old new : Chosen) (limit : Option Candidate) → IsSurface f.mesh →
+    ArePositive f.mesh f.lengths → f.mesh.vertices ≤ 2 ^ 32 → edge_count f.mesh ≤ 2 ^ 32 → z < f.mesh.vertices →
+    IsCapped (limit_of old) cap limit → IsKeptAt f z limit old new → StaysEnough f old new
+probed f z cap old new limit surface positive few_v few_e z_in capped next caps kept =
+    round_fewer f (with_places z (is_within_cap cap) (in_caps caps)) (in_caps caps) new surface positive
+    (λ y p on. or_left (in_caps caps y p) (eqb y z && is_within_cap cap p) on)
+    (searched_here f f.lengths surface positive positive few_v few_e (λ e e_in. omega arith) no_member
+    (λ e e_in low high. refl) z cap z_in (in_caps caps) (λ y. within_start (cap_at caps y))
     (λ n p in_set on. absurd (false≢true in_set)) old new limit capped next kept)
 
 -- ---- the order of falling caps

@@ -85,6 +85,10 @@ pub record IsKeptAt (f : SurfaceTables) (base : ℕ) (limit : Option Candidate) 
   pub sorted : IsNonDecreasingBy order_of list
   pub new_is : new ≡ record old { kept = independent_of (merge signed_earlier old.kept list) }
 
+-- up to any caps for which what was kept was enough, what is kept now is enough too
+abbrev pub StaysEnough : SurfaceTables → Chosen → Chosen → Type 0
+StaysEnough f old new = (caps : List ℕ) → AreKeptUpTo f (in_caps caps) old → AreKeptUpTo f (in_caps caps) new
+
 -- ---- a round
 
 -- a finder bars vertices that are marked: its lengths differ at edges there alone, and are no shorter

@@ -18,6 +18,10 @@
 //! nothing is left to find up to its length, at any vertex, and the next one sets caps anew by what
 //! is kept by then.
 //!
+//! Before the first round there are probes (`probes.rt`): searches near some edges, each no farther
+//! than until it has found a loop that is shorter than those kept. Loops at one vertex are long
+//! where handles are far from it, and the first caps rest on them.
+//!
 //! Where all handles are alike caps win nothing. There it may cost less to search from vertices
 //! such that every closed walk that isn't null meets one of them. The caller gives these vertices,
 //! and each round takes what costs less, which is estimated from how many vertices are within a
@@ -25,7 +29,8 @@
 //!
 //! In a round the greatest caps are first (`round.rt`). Vertices with many edges are searched in
 //! each round, the first of their cap: whoever comes to one comes to all around it. The others are
-//! in an order that scatters them, so that short loops of all parts are found soon. To each search
+//! in an order that scatters some of them over the whole surface, so that short loops of all parts
+//! are found soon, and then goes part by part. To each search
 //! the ways through vertices that are done with are barred: the edges there are as long as an edge
 //! may be. Vertex 0 is done with from the start, since it was searched as far as the surface goes.
 //! A search needs no barred edges, since a loop that goes through such a vertex is a sum of loops
@@ -55,6 +60,7 @@ mod keys;
 mod kinds;
 mod marks;
 mod pace;
+mod probes;
 mod reached;
 mod rises;
 mod round;

@@ -13,10 +13,11 @@ ghost use Rattle.surf_base.specs.declared.limits.TheConstants.{MAX_LOOPS};
 use crate::caps::raise_caps;
 use crate::costs::{Costs, is_cut_cheaper};
 use crate::finder::Finder;
+use crate::probes::probe_all;
 use crate::round::{has_many_edges, keep_at, search_rising};
 use crate::surface::SignedSurface;
 use std::alloc::Global;
-use surf_base::{NoMemory, VertexId};
+use surf_base::{EdgeId, NoMemory, VertexId};
 use surf_choice::Choice;
 use surf_mesh::HalfMesh;
 use surf_tree::even_length;
@@ -284,11 +285,13 @@ fn begin(
 }
 
 /// Loops among whose lengths and least bases are the lengths and the bases of the basis that is
-/// chosen, where every closed walk that isn't null meets one of some vertices.
+/// chosen, where every closed walk that isn't null meets one of some vertices. Short loops are sought
+/// first near some edges: the left edges serve best, and any are right.
 pub fn sufficient_loops(
     alloc: Global,
     surface: &SignedSurface<'_>,
     vertices: &[VertexId],
+    edges: &[EdgeId],
     finder: &mut Finder<'_>,
     count: usize,
 ) -> Result<Choice, NoMemory>
@@ -296,6 +299,7 @@ pub fn sufficient_loops(
     requires lengths { length surface.now.lengths.now ≡ edge_count surface.now.mesh.now }
     requires signed { AreSigned surface.now.mesh.now surface.now.signatures.now count }
     requires vertices { All (λ v. v < surface.now.mesh.now.vertices) vertices.now }
+    requires edges { All (λ e. e < edge_count surface.now.mesh.now) edges.now }
     requires met { MeetsAll surface.now.mesh.now (is_among vertices.now) }
     requires full { IsLoopCount surface.now.mesh.now count }
     requires few { count ≤ MAX_LOOPS }
@@ -310,6 +314,7 @@ pub fn sufficient_loops(
     let mut choice = Choice::make(alloc, count as u32)?;
     let mut reached = vec![in alloc; 0u64; surface.mesh.vertices() as usize]?;
     begin(alloc, finder, &mut reached, &mut choice)?;
+    probe_all(alloc, surface, edges, finder, &mut choice)?;
     let distances = finder.distances(alloc, VertexId::new(0))?;
     let plan = Plan {
         surface,

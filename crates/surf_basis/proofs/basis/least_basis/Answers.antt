@@ -1,6 +1,7 @@
-use Rattle.surf_basis.proofs.Common.{first_of, as_loops, IsTheBasis, IsFirstCandidate, IsShortestCycle, ◌∙◌, ap, subst, IfSome, IfOk-weaker, IsLoopCount, LeastSimpleBasis, lengths_positive, CotreeTables}
+use Rattle.surf_basis.proofs.Common.{first_of, as_loops, IsTheBasis, IsFirstCandidate, IsShortestCycle, ◌∙◌, ap, sym, subst, All, ◌<◌, edge_count, IfSome, IfOk-weaker, IsLoopCount, LeastSimpleBasis, lengths_positive, CotreeTables}
 use Rattle.surf_basis.proofs.First.{first_shortest}
 use Rattle.surf_basis.proofs.Leading.{basis_first}
+use Rattle.surf_basis.proofs.OnCut.{left_inside}
 use Rattle.surf_basis.proofs.Whole.{left_count, least_of, none_basis}
 use Rattle.surf_basis.proofs.basis.least_basis.Goals as goal
 
@@ -58,3 +59,9 @@ returns-clause-shortest c =
     IfOk-weaker c.basis_over.result (λ cycles. IsFirstCandidate mesh lengths (first_of cycles.items))
     (λ cycles. IfSome (first_of cycles.items) (λ cycle. IsShortestCycle mesh lengths cycle))
     (λ cycles is. first_shortest mesh lengths c.law_of_surface.ensures.surface positive (first_of cycles.items) is) (returns-clause-first c)
+
+pub basis_over-requires-clause-left : goal.basis_over-requires-clause-left
+basis_over-requires-clause-left c =
+    let mesh = c.args.mesh.now in
+    subst (λ (t : CotreeTables). All (λ e. e < edge_count mesh) t.left) (sym c.into_cotree-signed.ensures.cotree)
+    (left_inside mesh c.in_ok-desk.desk c.in_ok-desk.ensures.divided)

@@ -1,4 +1,4 @@
-use Rattle.surf_search.proofs.Common.{◌≡◌, ℕ, List, replicate, sym, ap, ◌∙◌, subst, arith, Chosen, AreKeptUpTo, cap_at, in_caps, SurfaceTables, surface_of}
+use Rattle.surf_search.proofs.Common.{◌≡◌, ℕ, List, replicate, sym, ap, ◌∙◌, subst, arith, Chosen, AreKeptUpTo, StaysEnough, cap_at, in_caps, SurfaceTables, surface_of}
 use Rattle.surf_search.proofs.Capping.{zero_caps}
 use Rattle.surf_search.proofs.Marked.{written_back}
 use Rattle.surf_search.proofs.Rounded.{begun_none}
@@ -15,8 +15,13 @@ begin-requires-clause-kept c =
 
 pub run_rounds-requires-clause-kept : goal.run_rounds-requires-clause-kept
 run_rounds-requires-clause-kept c =
+    let f = surface_of c.args.surface.now in
     let new = c.begin.new.reached in
+    let begun = c.begin.new.choice in
+    let choice = c.probe_all.new.choice in
     let is : c.deref_mut-2.result.now ≡ new =
     c.deref_mut-2.ensures.value ∙ written_back new _ _ (omega (arith, c.begin.ensures.count, c.deref_mut.ensures.len)) in
-    subst (λ (xs : List ℕ). AreKeptUpTo (surface_of c.args.surface.now) (in_caps xs) c.begin.new.choice) (sym is)
-    (subst (λ (g : SurfaceTables). AreKeptUpTo g (in_caps new) c.begin.new.choice) c.requires.finder c.in_ok-begin.ensures.kept)
+    let stays : StaysEnough f begun choice =
+    subst (λ (g : SurfaceTables). StaysEnough g begun choice) (c.begin.ensures.same ∙ c.requires.finder) c.in_ok-probe_all.ensures.kept in
+    subst (λ (xs : List ℕ). AreKeptUpTo f (in_caps xs) choice) (sym is)
+    (stays new (subst (λ (g : SurfaceTables). AreKeptUpTo g (in_caps new) begun) c.requires.finder c.in_ok-begin.ensures.kept))
