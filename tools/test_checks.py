@@ -195,7 +195,7 @@ class Starved:
     def __init__(self, *starved):
         self.starved = starved
 
-    def run(self, words):
+    def run(self, words, seconds):
         sizes = [pathlib.Path(word).stat().st_size for word in words if pathlib.Path(word).is_file()]
         if "/dev/zero" in words or max(sizes) > 268_435_456:
             return (11, b"", b"memory\n") if words[0] in self.starved else (6, b"", b"limit: text\n")
@@ -204,20 +204,26 @@ class Starved:
 
 
 class GreatFiles(unittest.TestCase):
-    def faults(self, *starved):
+    def faults(self, trial, *starved):
         with tempfile.TemporaryDirectory() as name:
             files = {kind: pathlib.Path(name, kind) for kind in hostile.SAMPLES}
             for path in files.values():
                 path.touch()
-            return hostile.great_files(Starved(*starved), files, pathlib.Path(name)).faults
+            tally = trial(Starved(*starved), files, pathlib.Path(name))
+            return (tally if trial is hostile.great_files else tally[0]).faults
 
-    def test_every_file_is_tried(self):
-        self.assertEqual(self.faults(), [])
-        for command, kind in (("dist", "L"), ("check", "C"), ("class", "W"), ("same", "W2"), ("cut", "P"), ("sew", "O"), ("confirm", "E")):
-            faults = self.faults(command)
-            self.assertTrue(any(fault.startswith(command) and f", {kind}:" in fault for fault in faults), faults)
+    def test_each_kind_of_file(self):
+        self.assertEqual(self.faults(hostile.great_files), [])
         for kind, command in (("L", "dist"), ("C", "check"), ("W", "class"), ("W2", "same"), ("P", "cut")):
-            self.assertIn(f"an endless {kind}: status 11, b'memory\\n'", self.faults(command))
+            wrong = "status 11, b'memory\\n'"
+            self.assertEqual(self.faults(hostile.great_files, command), [f"{kind} past the limit: {wrong}", f"{kind} without an end: {wrong}"])
+
+    def test_each_file_of_each_command(self):
+        self.assertEqual(self.faults(hostile.past_runs), [])
+        for command, kind in (("dist", "L"), ("check", "C"), ("class", "W"), ("same", "W2"), ("cut", "P"), ("sew", "O"), ("confirm", "E"), ("info", "M")):
+            faults = self.faults(hostile.past_runs, command)
+            self.assertTrue(any(fault.startswith(command) and f", {kind}:" in fault for fault in faults), faults)
+            self.assertTrue(all(fault.startswith(command) for fault in faults), faults)
 
 
 class Misuses(unittest.TestCase):
