@@ -43,7 +43,7 @@ fn search_to(
 }
 
 // Searches from an end of an edge, each time twice as far, until the edge's signature is a sum of
-// shorter loops than before, or there are none of half their length.
+// shorter loops than before, or the next search would go as far as these are long.
 fn probe(
     surface: &SignedSurface<'_>,
     finder: &mut Finder<'_>,
@@ -64,7 +64,7 @@ fn probe(
     let height = height_of(surface, choice, edge);
     let mut most = u64::from(surface.lengths.of(edge)).saturating_mul(8);
     for _step in 0..64 {
-        if height / 2 <= most || height_of(surface, choice, edge) < height {
+        if height <= most || height_of(surface, choice, edge) < height {
             return Ok(());
         }
         search_to(finder, base, most, choice, found)?;
