@@ -83,8 +83,7 @@ class Finder:
         return "mesh", "lengths"
 
     def lengths_text(self, shape):
-        rows = zip(shape.edges(), shape.units(self.known))
-        return "".join(f"{u} {v} {units}\n" for (u, v), units in rows).encode()
+        return "".join("%d %d %d\n" % row for row in shape.lengths(self.known)).encode()
 
     def basis(self, shape):
         return self.surf.cycles("basis", *self.files(shape))

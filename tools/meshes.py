@@ -152,7 +152,8 @@ def noisy():
     """The points and the squares of a torus with small handles, half of them along it and half across."""
     points = [on_torus(i, j) for i in range(ROUND) for j in range(ACROSS)]
     squares = [(i, j) for i in range(ROUND) for j in range(ACROSS)]
-    pairs = [((4 * k, 7 * k % ACROSS), (4 * k + 3 * (k % 2), (7 * k + 4 * (1 - k % 2)) % ACROSS)) for k in range(HANDLES)]
+    starts = [(4 * k, 7 * k % ACROSS) for k in range(HANDLES)]
+    pairs = [((i, j), (i + 3, j) if k % 2 else (i, (j + 4) % ACROSS)) for k, (i, j) in enumerate(starts)]
     gone = {at for pair in pairs for at in pair}
     faces = [tuple(number(*at) for at in square(*where)) for where in squares if where not in gone]
     for pair in pairs:

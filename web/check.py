@@ -197,7 +197,7 @@ def handles_against_tool(wasm, program, room) -> int:
 
 def is_same_surgery(found, shape, known, taken) -> bool:
     """Whether the page's modules leave what the tool leaves."""
-    lengths = "".join(f"{u} {v} {n}\n" for (u, v), n in zip(shape.edges(), shape.units(known)))
+    lengths = "".join(f"{u} {v} {units}\n" for u, v, units in shape.lengths(known))
     points = [x for point in shape.parted_points() for x in point]
     same = found["taken"] == [cycle.units for cycle in taken.cycles] and found["oneSided"] == taken.one_sided
     same = same and found["left"] == (taken.left and taken.left.units) and found["lengths"] == lengths

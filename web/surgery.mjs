@@ -1,7 +1,7 @@
 // Takes handles off as the page does: node surgery.mjs SURF.WASM FOLDER
 // FOLDER has trials.json, a list of {mesh, lengths, limit}, where mesh and lengths are names of files in the folder;
-// lengths and limit may be null, for lengths of 1 and for all handles. What is left, by its corners and its lengths, and
-// what went, goes to the file answers.json.
+// lengths and limit may be null, for lengths of 1 and for all handles. What is left, by its corners and its lengths,
+// and what went, goes to the file answers.json.
 import { readFileSync, writeFileSync } from 'node:fs';
 import { join } from 'node:path';
 import { Cycles } from './page/cycles.js';

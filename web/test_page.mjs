@@ -361,8 +361,8 @@ test('a torus becomes a sphere by a cut and two faces', () => {
   assert.deepEqual(surgery.vertexOrigins, [0, 1, 2, 3, 4, 5, 6, 7, 8, 0, 1, 2]);
   const steps = facesOf(mesh).flatMap((face) => face.map((v, k) => `${v} ${face[(k + 1) % face.length]}`));
   assert.equal(new Set(steps).size, steps.length, 'the faces of each edge run it in opposite ways');
-  const points = surgery.partedPoints(), places = [0, 1, 2].map((v) => [v, 9 + v].map((w) => points.slice(3 * w, 3 * w + 3)));
-  for (const [one, other] of places) {
+  const points = surgery.partedPoints(), placeOf = (v) => points.slice(3 * v, 3 * v + 3);
+  for (const [one, other] of [0, 1, 2].map((v) => [placeOf(v), placeOf(9 + v)])) {
     assert.notDeepEqual(one, other);
     assert.ok(Math.hypot(...one.map((x, c) => x - other[c])) < 1e-3);
   }

@@ -205,14 +205,14 @@ class Shape:
         pairs = {(min(u, v), max(u, v)) for face in self.faces for u, v in zip(face, face[1:] + face[:1])}
         return sorted(pairs)
 
-    def units(self, known: Dict[Pair, int]) -> List[int]:
-        """The length of each edge, where the lengths at the beginning are known: an edge that was there keeps its
-        own."""
-        found = []
+    def lengths(self, known: Dict[Pair, int]) -> List[Tuple[int, int, int]]:
+        """Each edge, the lesser end first, in order, with its length, where the lengths at the beginning are known: an
+        edge that was there keeps its own."""
+        found, origins = [], self.vertex_origins
         for u, v in self.edges():
-            ends = self.vertex_origins[u], self.vertex_origins[v]
+            one, other = origins[u], origins[v]
             spoke = self.spokes.get(u) or self.spokes.get(v)
-            found.append(spoke or known[min(ends), max(ends)])
+            found.append((u, v, spoke or known[(one, other) if one < other else (other, one)]))
         return found
 
     def cut(self, chosen: Sequence[Tuple[Cycle, Side]], closing: str) -> None:
@@ -238,7 +238,8 @@ class Shape:
         return copy
 
     def _close(self, rim: List[int], units: int, closing: str) -> None:
-        """Closes a border of this length, against the way that the faces there run it. A walk over the middle of triangles is longer than half the border."""
+        """Closes a border of this length, against the way that the faces there run it. A walk over the middle of
+        triangles isn't shorter than half the border."""
         if closing == "faces":
             self.faces.append(list(rim))
             self.face_origins.append(-1)

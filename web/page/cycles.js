@@ -43,7 +43,8 @@ export class Cycles {
 
   asked(word, surgery) {
     const lengths = this.lengthsOf(surgery), mesh = offOf(surgery.mesh());
-    return cyclesIn(lengths ? this.ask(`${word} 1 2`, [mesh, lengths]) : this.ask(`${word} 1 unit`, [mesh]));
+    const [name, files] = lengths ? ['2', [mesh, lengths]] : ['unit', [mesh]];
+    return cyclesIn(this.ask(`${word} 1 ${name} large`, files));
   }
 
   basis(surgery) {

@@ -30,8 +30,8 @@ export class Finder {
     /** Is told what is shown: an answer, or nothing. */
     this.shown = () => {};
     /**
-     * What is known of the mesh: `measured` are the decimals with which the worker has its lengths, and `text` is the mesh
-     * where the page made it.
+     * What is known of the mesh: `measured` are the decimals with which the worker has its lengths, and `text` is the
+     * mesh where the page made it.
      */
     this.mesh = { name: '', counts: null, decimals: undefined, measured: undefined, text: null };
     this.forget();

@@ -88,7 +88,7 @@ export class Session {
     return shape;
   }
 
-  /** Takes off the handles that are shorter than so many units. What is left stands in place of the file, by this name. */
+  /** Takes off the handles that are shorter than so many units. What is left takes the file's place, by this name. */
   async takeOff(limit, lengths, name) {
     const shape = await this.ask('takeOff', { limit, lengths });
     this.opened = { file: { name, blob: new Blob([shape.text]) }, mends: [] };

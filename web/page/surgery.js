@@ -2,7 +2,7 @@
 // that this leaves is closed by one face. After I. Guskov and Z. J. Wood, "Topological noise removal", 2001.
 // A cycle is `{units, vertices}`: its length, and its vertices, each of them once.
 
-/** Of the surface's diagonal: so far, at most, a vertex moves off its cut; and the part of the way to what is beside. */
+/** So much of the surface's diagonal, at most, a vertex moves off its cut, and of the way to what is beside it. */
 const HAIR = 1e-5, SHARE = 1e-3;
 
 const stepsOf = ({ vertices }) => vertices.map((v, k) => [v, vertices[(k + 1) % vertices.length]]);
@@ -28,7 +28,7 @@ class Ring {
     return neighbour === one ? other : one;
   }
 
-  /** The faces round the vertex from one at the edge to `before` up to the edge to `after`, and the neighbours between. */
+  /** The faces round the vertex from one at the edge to `before` up to that to `after`, and the neighbours between. */
   between(face, before, after) {
     const arc = [face], passed = [];
     for (let at = this.across(face, before); at !== after; at = this.across(arc.at(-1), at)) {
@@ -51,8 +51,8 @@ function ringsAt(faces, vertices) {
 
 /**
  * What lies on one side of a cycle: at each of its vertices the faces there (`arcs`), and the edges that leave it on
- * this side. On a one-sided cycle what begins on one side comes back on the other, at its first vertex. `along` tells of
- * the two faces at its first edge, that on this side first, whether they run it as the cycle does.
+ * this side. On a one-sided cycle what begins on one side comes back on the other, at its first vertex. `along` tells
+ * of the two faces at its first edge, that on this side first, whether they run it as the cycle does.
  */
 function sideOf({ vertices }, rings) {
   const count = vertices.length, ring = rings.get(vertices[0]), pair = ring.faces.get(vertices[1]);
@@ -137,7 +137,7 @@ function together(faces, cycles) {
   return found.chosen;
 }
 
-/** A closed surface that handles are taken off. In `vertexOrigins` a copy has the number of its vertex at the beginning. */
+/** A closed surface that handles are taken off. In `vertexOrigins` a copy has the number that its vertex had at first. */
 export class Surgery {
   /** @param {{points: Float64Array, starts: Uint32Array, corners: Uint32Array}} mesh */
   constructor({ points, starts, corners }) {
@@ -183,7 +183,7 @@ export class Surgery {
     this.faces.push(isBackwards ? [...rim].reverse() : [...rim]);
   }
 
-  /** The points, in which copies of one vertex stand a hair apart, each moved towards what lies on its side of the cut. */
+  /** The points, in which copies of one vertex stand a hair apart, each moved to what lies on its side of the cut. */
   partedPoints() {
     const points = [...this.points], groups = this.copies(), beside = this.besideCopies(new Set(groups.flat()));
     const most = HAIR * diagonalOf(points);
@@ -236,10 +236,10 @@ function stepTowards(place, goals, most) {
 }
 
 /**
- * Takes off the handles that are shorter than a limit. `finder.cycle(surgery)` is a shortest cycle that doesn't separate
- * it, or null, and `finder.basis(surgery)` a least homology basis (mod 2), the shortest cycle first. The last word is
- * that of `finder.cycle`. Answers the lengths of the cycles, in their order, how many of them were one-sided, and the
- * length of the one that is left, or null.
+ * Takes off the handles that are shorter than a limit. `finder.cycle(surgery)` is a shortest cycle that doesn't
+ * separate it, or null, and `finder.basis(surgery)` a least homology basis (mod 2), the shortest cycle first. The last
+ * word is that of `finder.cycle`. Answers the lengths of the cycles, in their order, how many of them were one-sided,
+ * and the length of the one that is left, or null.
  */
 export function takeOff(surgery, finder, limit) {
   const taken = [];

@@ -4,7 +4,9 @@ import { plural, shownLength } from './units.js';
 /**
  * What is drawn in one colour and is a row of the list: the ends of its edges, two numbers each, and its vertices and
  * length, also in units, where it is a walk. A plain one has no number and the ink of a mark.
- * @typedef {{edges: Uint32Array, vertices: number[], title: string, units?: number, length?: number, isPlain?: boolean}} Walk
+ * @typedef {{
+ *   edges: Uint32Array, vertices: number[], title: string, units?: number, length?: number, isPlain?: boolean
+ * }} Walk
  */
 
 /** The ends of a walk's edges, two numbers each. */

@@ -124,8 +124,8 @@ const does = {
   },
 
   /**
-   * Takes off the handles that are shorter than so many units; old edges stay as long as they are. Answers what is left,
-   * its text, and what went.
+   * Takes off the handles that are shorter than so many units; old edges stay as long as they are. Answers what is
+   * left, its text, and what went.
    */
   takeOff({ limit, lengths }) {
     return orRefused(() => {

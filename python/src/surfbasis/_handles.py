@@ -57,7 +57,7 @@ class Finder:
     def surface(self, shape: Any, points: Any) -> Surface:
         """The shape as a surface."""
         vertices = len(shape.vertex_origins) if points is None else np.array(points)
-        units = np.array(shape.units(self.known), np.int64)
+        units = np.array([units for _, _, units in shape.lengths(self.known)], np.int64)
         return type(self.first)(vertices, shape.faces, lengths=units, decimals=self.first.decimals)
 
     def _now(self, shape: Any) -> Surface:

@@ -212,8 +212,7 @@ class Surface:
 
         Old edges keep their lengths, which are given to the new surface: `with_lengths()` measures them anew. Copies
         of a vertex stand a hair apart. Old faces, and old vertices, keep their numbers; `vertex_origins` and
-        `face_origins` have those of copies, and `removed` the cycles. Takes up to 20,000 vertices (LimitRefused), those
-        of the answer included.
+        `face_origins` have those of copies, and `removed` the cycles.
 
         >>> eight = Surface.from_file("meshes/eight.off", decimals=6)
         >>> ring = eight.without_handles(shorter_than=1.86)
