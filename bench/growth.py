@@ -134,7 +134,7 @@ def main() -> None:
     parser.add_argument("--part", default="", help="only meshes with this text in their words")
     parser.add_argument("commands", nargs="*", help="names of rows, or their first words; none: all")
     options = parser.parse_args()
-    options.beside = []
+    options.beside, options.plain_beside, options.sketch = [], [], []
     surf = (options.surf or speed.built()).resolve()
     head = ["command", "mesh", "lengths", "seconds before", "seconds", "MB", "power"]
     print("| " + " | ".join(head) + " |")

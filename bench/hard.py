@@ -1,18 +1,25 @@
 #!/usr/bin/env python3
 """Seconds, memory and growth of each command on meshes that no search was tuned for, as one table in Markdown.
 
-    bench/hard.py [--surf PROGRAM] [--beside NAME=WORDS ..] [--repeat N] [--limit SECONDS] [--part TEXT] [COMMAND ..]
+    bench/hard.py [--surf PROGRAM] [--plain] [--beside NAME=WORDS ..] [--repeat N] [--limit SECONDS] [--part TEXT]
+                  [--bases | --large | COMMAND ..]
 
 Each row is a command on a mesh of `bench/meshes.py` with lengths of `bench/lengths.py`, at two sizes, the second
 about four times the first. Seconds, megabytes and ratios are those of the second; the exponent is the power of the
 number of vertices with which the seconds grow from the first to the second, and stands where the first takes long
 enough to tell. Programs, options and cells are those of `bench/speed.py`: seconds of one processor, the least of the
-repeats in turn; `--beside` names another program that takes the same words, whose bytes have to be ours. `--part`
-keeps the rows whose mesh has that text in its words.
+repeats in turn; `--beside` names another program that takes the same words, whose bytes have to be ours. `--plain`
+builds `bench/plain` and puts it beside, for bases and cycles its sketch. `--part` keeps the rows whose mesh has that
+text in its words.
+
+`--bases` makes another table: how many times the seconds of the sketch a basis takes, on meshes of some 20,000
+vertices with lengths of six kinds. `--large` makes one of bases of meshes with up to 1,000,000 vertices, by the word
+`large`; a program that doesn't know it is passed over with a word.
 """
 import argparse
 import math
 import shlex
+import subprocess
 import sys
 import tempfile
 from dataclasses import dataclass
@@ -42,6 +49,28 @@ HANDLES = [
 ONE_SIDED = [("handles 70 71 64 --cross", "handles 140 142 64 --cross")]
 ROUGH = [("blobs 29 40", "blobs 57 40"), ("glued 62", "glued 250")]
 DENSE = [("dense 15 17 128", "dense 30 33 512")]
+BASES = [
+    "handles 140 142 64 --near",
+    "handles 140 142 64",
+    "comb 60 100",
+    "torus 3 6666",
+    "ring 63 16 20",
+    "ring 511 6 7",
+    "chain 8 30 30",
+]
+LARGE = [
+    "torus 700 700",
+    "torus 3 333333",
+    "chain 8 353 353",
+    "chain 64 125 125",
+    "chain 512 44 44",
+    "ring 511 44 44",
+    "scan 500000 5",
+    "scan 500000 50",
+    "scan 500000 104",
+    "gyroid 90 4",
+    "handles 700 700 500",
+]
 LINEAR = GREAT_FACES + GREAT_DEGREES + DEEP + SCANS
 FAR = THIN + HANDLES + ONE_SIDED + ROUGH
 
@@ -50,6 +79,9 @@ SCATTERED = "scattered 1"
 TIES = "ties 3"
 HEAVY = "heavy 97 1 4294967295"
 NEAR = "near 1000000 3"
+MILLION = "random 1 1000000"
+COORDINATES = "coordinates 6"
+BASES_LENGTHS = [UNIT, SCATTERED, TIES, HEAVY, NEAR, MILLION]
 
 
 @dataclass
@@ -114,6 +146,12 @@ class Files(speed.Inputs):
             self.made[key] = str(path)
         return self.made[key]
 
+    def forget(self) -> None:
+        """Removes all files."""
+        for path in self.made.values():
+            Path(path).unlink()
+        self.made.clear()
+
 
 def vertices_of(path: str) -> int:
     with open(path) as text:
@@ -124,7 +162,8 @@ def vertices_of(path: str) -> int:
 def measured(case: Case, mesh: str, weights: str, files: Files, options: argparse.Namespace):
     """The programs that ran a command on a mesh, and its number of vertices."""
     names = files.names(mesh, "" if weights == UNIT else weights, case.first)
-    programs = [[str(files.surf)], *(program for _, program in options.beside)]
+    plain = options.sketch if case.name in ("basis", "cycle") else options.plain_beside
+    programs = [[str(files.surf)], *(program for _, program in [*plain, *options.beside])]
     runners = speed.in_turn(programs, speed.filled(case.words, names), files.work, options)
     return runners, vertices_of(names["M"][0])
 
@@ -145,29 +184,88 @@ def row(case: Case, sizes: tuple[str, str], weights: str, files: Files, options:
     return cells
 
 
+def basis_beside(mesh: str, weights: str, files: Files, options: argparse.Namespace, is_large: bool):
+    """Ours and the sketch after a basis each, in turn, and how many vertices there are."""
+    names = files.names(mesh, "" if weights == UNIT else weights, None)
+    words = speed.filled("basis M L", names)
+    programs = [[str(files.surf), *words, *(["large"] if is_large else [])]]
+    programs += [[*program, *words] for _, program in options.sketch]
+    return speed.in_turn(programs, [], files.work, options), vertices_of(names["M"][0])
+
+
+def print_bases(files: Files, options: argparse.Namespace) -> None:
+    """The table of ratios: a row for each mesh, a column for each kind of lengths."""
+    speed.print_head(["basis", *BASES_LENGTHS])
+    for mesh in (mesh for mesh in BASES if options.part in mesh):
+        cells = []
+        for weights in BASES_LENGTHS:
+            (ours, sketch), _ = basis_beside(mesh, weights, files, options, is_large=False)
+            cells.append(speed.ratio(ours, sketch))
+        print("| " + " | ".join([mesh, *cells]) + " |", flush=True)
+
+
+def knows_large(files: Files) -> bool:
+    """Whether the program takes the word `large`."""
+    words = [str(files.surf), "basis", files.mesh(["torus", "3", "3"]), "unit", "large"]
+    return subprocess.run(words, capture_output=True, check=False).returncode == 0
+
+
+def print_large(files: Files, options: argparse.Namespace) -> None:
+    """The table of large meshes. The files of a mesh go before those of the next are made."""
+    if not knows_large(files):
+        print("the program doesn't know `large`: bases of large meshes passed over")
+        return
+    head = ["basis", "lengths", "vertices", "seconds", "MB"]
+    for name, _ in options.sketch:
+        head += [f"{name}: seconds", f"{name}: MB", "ratio"]
+    speed.print_head(head)
+    for mesh in (mesh for mesh in LARGE if options.part in mesh):
+        for weights in (UNIT, COORDINATES if mesh.startswith("scan") else SCATTERED):
+            (ours, *others), count = basis_beside(mesh, weights, files, options, is_large=True)
+            cells = [mesh, weights, f"{count:,}", *ours.figures()]
+            for other in others:
+                cells += [*other.figures(), speed.ratio(ours, other)]
+            print("| " + " | ".join(cells) + " |", flush=True)
+        files.forget()
+
+
+def print_all(files: Files, options: argparse.Namespace) -> None:
+    """The table of all commands."""
+    head = ["command", "mesh", "lengths", "vertices", "seconds", "MB", "exponent"]
+    for name, _ in [*options.plain_beside, *options.beside]:
+        head += [f"{name}: seconds", "ratio"]
+    speed.print_head(head)
+    for case in CASES:
+        if options.commands and not {case.name, case.name.split()[0]} & set(options.commands):
+            continue
+        for sizes in (pair for pair in case.sizes if options.part in pair[1]):
+            for weights in case.lengths:
+                print("| " + " | ".join(row(case, sizes, weights, files, options)) + " |", flush=True)
+
+
 def main() -> None:
     parser = argparse.ArgumentParser(description=__doc__, formatter_class=argparse.RawDescriptionHelpFormatter)
     parser.add_argument("--surf", type=Path)
+    parser.add_argument("--plain", action="store_true", help="build bench/plain and put it beside")
     parser.add_argument("--beside", type=speed.named, action="append", default=[])
     parser.add_argument("--repeat", type=int, default=1)
-    parser.add_argument("--limit", type=int, default=60, help="processor seconds of one run")
+    parser.add_argument("--limit", type=int, help="processor seconds of one run: 60, or 200 with --large")
     parser.add_argument("--part", default="", help="only meshes with this text in their words")
+    parser.add_argument("--bases", action="store_true")
+    parser.add_argument("--large", action="store_true")
     parser.add_argument("commands", nargs="*", help="names of rows, or their first words; none: all")
     options = parser.parse_args()
+    if options.bases and not options.plain:
+        parser.error("--bases wants --plain")
+    options.limit = options.limit or (200 if options.large else 60)
     surf = (options.surf or speed.built()).resolve()
-    head = ["command", "mesh", "lengths", "vertices", "seconds", "MB", "exponent"]
-    for name, _ in options.beside:
-        head += [f"{name}: seconds", "ratio"]
-    print("| " + " | ".join(head) + " |")
-    print("|---" * len(head) + "|")
+    plain = [str(speed.plain_built())] if options.plain else []
+    options.plain_beside = [("plain or sketch", plain)] if plain else []
+    options.sketch = [("sketch", [*plain, "--sketch"])] if plain else []
     with tempfile.TemporaryDirectory() as folder:
         files = Files(surf, Path(folder), options)
-        for case in CASES:
-            if options.commands and not {case.name, case.name.split()[0]} & set(options.commands):
-                continue
-            for sizes in (pair for pair in case.sizes if options.part in pair[1]):
-                for weights in case.lengths:
-                    print("| " + " | ".join(row(case, sizes, weights, files, options)) + " |", flush=True)
+        table = print_bases if options.bases else print_large if options.large else print_all
+        table(files, options)
 
 
 if __name__ == "__main__":

@@ -27,6 +27,8 @@
     blobs N K           tubes between K near points, likewise: like a scan of something real
     bumpy A B           a torus in space with bumps on bumps, with coordinates
     stretched A B       a torus in space, 1,000 times as long as wide, with coordinates
+    scan N H            like a scan of some N vertices, with coordinates: a noisy blob with H small handles between
+                        near faces, as noise makes them
 
 With --shuffle the vertices and faces are numbered anew at random, and with --turn some faces are run backwards too.
 """
@@ -562,6 +564,86 @@ def stretched(a: int, b: int) -> Mesh:
         return 1000 * (3 + math.cos(v)) * math.cos(u), (3 + math.cos(v)) * math.sin(u), math.sin(v)
 
     return torus_in_space(a, b, place)
+
+
+# ---- like a scan
+
+
+def blob(n: int, chance: random.Random) -> Mesh:
+    """A cube of 6 n^2 squares, rounded, with bumps and noise. Squares are cut along either diagonal."""
+    ranges = [(1, 9), (1, 9), (1, 9), (0, 6), (0.01, 0.08)]
+    bumps = [[chance.uniform(*bounds) for bounds in ranges] for _ in range(12)]
+    number: dict[tuple[int, ...], int] = {}
+    points: list[Point] = []
+
+    def at(place: tuple[int, ...]) -> int:
+        if place not in number:
+            number[place] = len(points)
+            out = [math.tan((2 * t / n - 1) * math.pi / 4) for t in place]
+            x, y, z = (t / math.hypot(*out) for t in out)
+            height = 1 + sum(size * math.sin(i * x + j * y + k * z + phase) for i, j, k, phase, size in bumps)
+            height *= 1 + chance.gauss(0, 0.15 / n)
+            points.append((x * height, y * height, z * height))
+        return number[place]
+
+    faces: list[Face] = []
+    for axis, end, i, j in itertools.product(range(3), (0, n), range(n), range(n)):
+        ring = [(i, j), (i + 1, j), (i + 1, j + 1), (i, j + 1)]
+        if (axis + (end > 0)) % 2 == 0:
+            ring.reverse()
+        a, b, c, d = (at((*pair[:axis], end, *pair[axis:])) for pair in ring)
+        faces += [(a, b, c), (a, c, d)] if chance.random() < 0.5 else [(a, b, d), (b, c, d)]
+    return Mesh(len(points), faces, points)
+
+
+def bridged(mesh: Mesh, first: Face, second: Face, count: int) -> list[Face]:
+    """The faces of a tube in space between two faces, of so many rings of three; its points are added to the mesh."""
+    points = mesh.points
+    turned = [(second[t], second[t - 1], second[t - 2]) for t in range(3)]
+    end = min(turned, key=lambda other: sum(math.dist(points[u], points[v]) for u, v in zip(first, other)))
+    rings = [first]
+    for step in range(1, count + 1):
+        part = step / (count + 1)
+        lift = 1 + 0.02 * math.sin(math.pi * part)
+        rings.append(tuple(range(len(points), len(points) + 3)))
+        points += [tuple(lift * (a + part * (b - a)) for a, b in zip(points[u], points[v])) for u, v in zip(first, end)]
+    mesh.vertices = len(points)
+    faces: list[Face] = []
+    for (ring, other), i in itertools.product(zip(rings, [*rings[1:], end]), range(3)):
+        j = (i + 1) % 3
+        faces += [(ring[i], ring[j], other[j]), (ring[i], other[j], other[i])]
+    return faces
+
+
+@kind
+def scan(n: int, h: int, choices: Choices) -> Mesh:
+    chance = choices.chance
+    mesh = blob(max(3, round(math.sqrt(n / 6))), chance)
+    at: list[list[int]] = [[] for _ in range(mesh.vertices)]
+    for place, face in enumerate(mesh.faces):
+        for v in face:
+            at[v].append(place)
+
+    def near(face: int) -> int:
+        v = mesh.faces[face][0]
+        for _ in range(chance.randint(4, 14)):
+            v = chance.choice(mesh.faces[chance.choice(at[v])])
+        return chance.choice(at[v])
+
+    used: set[int] = set()
+    gone: set[int] = set()
+    added: list[Face] = []
+    while len(gone) < 2 * h:
+        f = chance.randrange(len(mesh.faces))
+        g = near(f)
+        ends = (mesh.faces[f], mesh.faces[g])
+        around = {w for end in ends for v in end for place in at[v] for w in mesh.faces[place]}
+        if set(ends[0]).isdisjoint(ends[1]) and around.isdisjoint(used):
+            used |= around
+            gone |= {f, g}
+            added += bridged(mesh, *ends, chance.randint(2, 5))
+    mesh.faces = [face for place, face in enumerate(mesh.faces) if place not in gone] + added
+    return mesh
 
 
 # ---- the texts

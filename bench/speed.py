@@ -1,7 +1,7 @@
 #!/usr/bin/env python3
-"""Seconds and peak memory of each command on generated meshes, as one table in Markdown.
+"""Seconds and peak memory of each command on generated meshes, as tables in Markdown.
 
-    bench/speed.py [--surf PROGRAM] [--beside NAME=WORDS ..] [--repeat N] [--limit SECONDS] [COMMAND ..]
+    bench/speed.py [--surf PROGRAM] [--plain] [--beside NAME=WORDS ..] [--repeat N] [--limit SECONDS] [COMMAND ..]
 
 Builds the program (`rt run` in crates/surf), unless one is named, makes tori and chains with `surf gen`, and runs each
 command on them. A mesh that is `shuffled` is a torus whose vertices and faces are numbered anew at random. Seconds are
@@ -9,10 +9,13 @@ of one processor (user and system, the least of the repeats). Megabytes are the 
 script's own (some 12) aren't seen, since a program starts as its copy. A run that takes more than the limit is `late`.
 A row for two kinds of lengths has a figure for each, in their order, or one figure where both are equal.
 
-`--beside` names another program and the words to start it by, as in `--beside fast='plain --fast'`. It takes the same
-words, and gets columns of its own: its seconds, its megabytes, and the ratio of ours to its seconds. Where its bytes are
-not ours, the ratio has `DIFFERS` after it; where it doesn't take the command, the columns are empty. Machines differ
-and are shared, so ratios say more than seconds, and the programs run in turn: a repeat is one run of each.
+There is a table for commands that `bench/plain` has by the basic methods, one for bases, of which it has a sketch, and
+one for the rest. `--plain` builds it by cargo and puts it beside; then, if no command is named, the other tables of
+docs/speed.md follow, by the scripts in OTHERS. `--beside` names another program and the words to start it by, as in
+`--beside old=release/surf`. It takes the same words, and gets columns of its own: its seconds, its megabytes, and the
+ratio of ours to its seconds. Where its bytes are not ours, the ratio has `DIFFERS` after it; where it doesn't take the
+command, the columns are empty. Machines differ and are shared, so ratios say more than seconds, and the programs run
+in turn: a repeat is one run of each.
 """
 import argparse
 import filecmp
@@ -32,23 +35,32 @@ FAR = ["torus 40 40", "torus 100 100", "torus 100 200", "chain 8 30 30", "chain 
 
 # A command, the meshes that it is measured on by the words of `gen`, the scatter of its lengths (0: all are 1), what is
 # made first (None, or words whose answer is the file C), and its words, with M for the mesh and L for its lengths.
-CASES = [
+BASIC = [
     ("info", LINEAR, [0], None, "info M"),
     ("dist", LINEAR, [0, 1], None, "dist M L 0"),
     ("loops", LINEAR, [0, 1], None, "loops M L 0"),
     ("cut trim", LINEAR, [0, 1], None, "cut M L 0 trim"),
     ("cut full", LINEAR, [0, 1], None, "cut M L 0 full"),
+    ("basis", ["torus 40 40", "chain 64 4 4"], [0, 1], None, "basis M L"),
+]
+BASES = [
+    ("basis", FAR, [0, 1], None, "basis M L"),
+    ("cycle", FAR, [0, 1], None, "cycle M L"),
+]
+ALONE = [
     ("sew", TORI, [0], "cut M L 0 trim", "sew C"),
     ("class", TORI, [0], "walk", "class M C"),
     ("certify at a base", TORI, [0], None, "certify M L 0"),
     ("check of loops", TORI, [0], "certify M L 0", "check M L C"),
     ("gen", TORI, [0], None, "gen G"),
-    ("basis", FAR, [0, 1], None, "basis M L"),
-    ("cycle", FAR, [0, 1], None, "cycle M L"),
     ("shortest", ["torus 128 128", "chain 4 8 8"], [0], "walk", "shortest M L C"),
     ("certify", ["torus 31 32"], [0], None, "certify M L"),
     ("check of a basis", ["torus 31 32", "torus 3 333"], [0], "certify M L", "check M L C"),
 ]
+# The tables, each with what stands beside it: a name, and the words of `bench/plain` for its method.
+TABLES = [(BASIC, ("plain", [])), (BASES, ("sketch", ["--sketch"])), (ALONE, None)]
+# What follows with --plain: the scripts of the other tables of docs/speed.md, with their words.
+OTHERS = [["hard.py", "--plain", "--bases"], ["hard.py", "--plain", "--large"]]
 
 
 class Refused(Exception):
@@ -59,6 +71,13 @@ def built():
     """The program of this repository, built."""
     subprocess.run(["rt", "run", "--", "--version"], cwd=ROOT / "crates" / "surf", check=True, stdout=sys.stderr)
     return ROOT / "crates" / "surf" / "out" / "surf"
+
+
+def plain_built():
+    """The program of `bench/plain`, built."""
+    folder = ROOT / "bench" / "plain"
+    subprocess.run(["cargo", "build", "--release", "--offline"], cwd=folder, check=True, stdout=sys.stderr)
+    return folder / "target" / "release" / "plain"
 
 
 def stop_after(limit):
@@ -226,10 +245,9 @@ def filled(words, names):
     return [part for word in words.split() for part in names.get(word, [word])]
 
 
-def row(name, mesh, scatter, words, work, options, surf):
-    """The cells of one command on a mesh with the lengths of a scatter."""
-    programs = [[str(surf)], *(program for _, program in options.beside)]
-    ours, *others = in_turn(programs, words, work, options)
+def row(name, mesh, scatter, words, work, options, programs):
+    """The cells of one command on a mesh with the lengths of a scatter, by ours and the other programs."""
+    ours, *others = in_turn([program for _, program in programs], words, work, options)
     if ours.is_refused:
         sys.exit(f"{' '.join(words)}: refused")
     cells = [name, mesh, "scattered" if scatter else "unit", *ours.figures()]
@@ -243,16 +261,15 @@ def joined(rows):
     return [", ".join(cells if len(set(cells)) > 1 else cells[:1]) for cells in zip(*rows)]
 
 
-def rows(case, inputs, work, options):
+def rows(case, inputs, work, options, beside):
     """The rows of one command, one for each mesh, with a figure for each scatter."""
     name, meshes, scatters, first, text = case
     for mesh in meshes:
-        yield joined(
-            [
-                row(name, mesh, scatter, filled(text, inputs.names(mesh, scatter, first)), work, options, inputs.surf)
-                for scatter in scatters
-            ]
-        )
+        figures = []
+        for scatter in scatters:
+            words = filled(text, inputs.names(mesh, scatter, first))
+            figures.append(row(name, mesh, scatter, words, work, options, [("surf", [str(inputs.surf)]), *beside]))
+        yield joined(figures)
 
 
 def named(text):
@@ -260,27 +277,46 @@ def named(text):
     return name, shlex.split(words)
 
 
+def print_head(cells):
+    print("\n| " + " | ".join(cells) + " |")
+    print("|---" * len(cells) + "|")
+
+
+def print_table(cases, beside, inputs, work, options):
+    """A table of the cases that are asked for, if there are any."""
+    chosen = [case for case in cases if not options.commands or case[0].split()[0] in options.commands]
+    if not chosen:
+        return
+    head = ["command", "mesh", "lengths", "seconds", "MB"]
+    for name, _ in beside:
+        head += [f"{name}: seconds", f"{name}: MB", "ratio"]
+    print_head(head)
+    for case in chosen:
+        for row in rows(case, inputs, work, options, beside):
+            print("| " + " | ".join(row) + " |", flush=True)
+
+
 def main():
     parser = argparse.ArgumentParser(description=__doc__, formatter_class=argparse.RawDescriptionHelpFormatter)
     parser.add_argument("--surf", type=Path)
+    parser.add_argument("--plain", action="store_true", help="build bench/plain and put it beside")
     parser.add_argument("--beside", type=named, action="append", default=[])
     parser.add_argument("--repeat", type=int, default=3)
     parser.add_argument("--limit", type=int, default=60, help="processor seconds of one run")
     parser.add_argument("commands", nargs="*", help="their first words; none: all")
     options = parser.parse_args()
     surf = (options.surf or built()).resolve()
-    head = ["command", "mesh", "lengths", "seconds", "MB"]
-    for name, _ in options.beside:
-        head += [f"{name}: seconds", f"{name}: MB", "ratio"]
-    print("| " + " | ".join(head) + " |")
-    print("|---" * len(head) + "|")
+    plain = plain_built() if options.plain else None
     with tempfile.TemporaryDirectory() as folder:
         work = Path(folder)
         inputs = Inputs(surf, work, options)
-        for case in CASES:
-            if not options.commands or case[0].split()[0] in options.commands:
-                for row in rows(case, inputs, work, options):
-                    print("| " + " | ".join(row) + " |", flush=True)
+        for cases, method in TABLES:
+            ours = [(method[0], [str(plain), *method[1]])] if plain and method else []
+            print_table(cases, ours + options.beside, inputs, work, options)
+    if plain and not options.commands:
+        for script, *words in OTHERS:
+            script = Path(__file__).with_name(script)
+            subprocess.run([sys.executable, str(script), *words, "--surf", str(surf)], check=True)
 
 
 if __name__ == "__main__":
