@@ -124,16 +124,17 @@ def coff_text(mesh, answer):
 
 
 def html_text(title, mesh, answer, decimals, seen_from):
-    """A page. A cut is shown on the whole mesh, since it isn't a disc without what was added to close holes."""
+    """A page. It has the whole mesh, since a cut isn't a disc without what was added, and draws the rest of it."""
     first, _ = mesh.added
     is_added = [number >= first for number in range(len(mesh.faces))] if first < len(mesh.faces) else []
     drawn = viewfiles.Mesh(mesh.points, mesh.faces, is_added)
-    lines = [viewfiles.walk(walk, units, decimals) for walk, units in zip(answer.walks, answer.units)]
+    _, seen = without_added(mesh, answer)
+    lines = [viewfiles.walk(walk, units, decimals) for walk, units in zip(seen.walks, seen.units)]
     seams = answer.edges if answer.is_cut else None
     if answer.edges and not answer.is_cut:
-        lines.insert(0, viewfiles.edge_set(answer.edges))
+        lines.insert(0, viewfiles.edge_set(seen.edges))
     turn, tilt = seen_from
-    scene = viewfiles.Scene(title, drawn, lines, seams, sorted(answer.faces), turn=turn, tilt=tilt)
+    scene = viewfiles.Scene(title, drawn, lines, seams, sorted(seen.faces), turn=turn, tilt=tilt)
     return viewfiles.html(scene)
 
 

@@ -1,7 +1,11 @@
 #!/usr/bin/env python3
 """Tests of the tools beside the program: python3 tools/test_tools.py"""
 
+import base64
+import gzip
+import json
 import pathlib
+import re
 import struct
 import subprocess
 import sys
@@ -118,6 +122,14 @@ class Pictures(unittest.TestCase):
         text = self.shown("cycle 3 0 1 2 0\ncycle 9 0 1 4 0\nnull 2 1 5\n", "obj", hub).decode()
         self.assertEqual((text.count("\nv ") + 1, text.count("\nf "), text.count("\nl ")), (4, 4, 1))
         self.assertTrue(text.endswith("\nl 1 2 3 1\n"))
+
+    def test_a_page_that_turns(self):
+        page = self.shown("cycle 3 0 1 2 0\n", "html").decode()
+        self.assertTrue(page.startswith("<!doctype html>") and "<title>m</title>" in page)
+        data = gzip.decompress(base64.b64decode(re.search('id="scene">([^<]+)<', page)[1]))
+        head = json.loads(data[4 : 4 + struct.unpack_from("<I", data)[0]])
+        self.assertEqual((head["points"]["count"], head["faces"]["count"], head["isCut"]), (4, 4, False))
+        self.assertEqual(head["lines"], [{"size": 4, "isWalk": True, "units": 3, "decimals": 0}])
 
     def test_pictures_are_pictures(self):
         image = self.shown("cycle 3 0 1 2 0\n", "png")

@@ -25,6 +25,7 @@ import tempfile
 import browser
 import bundle
 import chrome
+import shown
 import webkit
 
 WEB = pathlib.Path(__file__).resolve().parent
@@ -79,7 +80,7 @@ def modules() -> int:
     print(f"web: {passed} tests of the page's modules passed")
     wrong = int(status != 0)
     with tempfile.TemporaryDirectory() as room:
-        for names in (bundle.VIEWER + bundle.FINDER, bundle.WORKER):
+        for names in (bundle.VIEWER + bundle.FINDER, bundle.VIEWER + bundle.PICTURE, bundle.WORKER):
             path = pathlib.Path(room, "bundle.mjs")
             path.write_text(bundle.joined(names))
             status, text = said(["node", "--check", path])
@@ -244,6 +245,20 @@ def in_chromium(folder, given) -> int:
     return browser.tried(folder / "surf.html", given.program, room, given.pictures)
 
 
+def files_shown(given) -> int:
+    """The number of checks of files that show an answer that fail."""
+    wrong = 0
+    for name, is_here, tried in (("Chromium", chrome.found(), shown.tried_in_chromium),
+                                 ("WebKit", webkit.found(), shown.tried_in_webkit)):
+        if is_here:
+            room = given.room / f"files-{name}"
+            room.mkdir()
+            wrong += tried(room)
+        else:
+            print(f"web: files that show an answer aren't tried in {name}, since that isn't here")
+    return wrong
+
+
 def in_webkit(folder, given) -> int:
     """The number of checks of the page in WebKit that fail."""
     if not webkit.found():
@@ -268,6 +283,7 @@ def main():
         wrong += modules()
     with tempfile.TemporaryDirectory() as room:
         given.room = pathlib.Path(room)
+        wrong += files_shown(given)
         folder = built(given)
         if folder and not given.program.is_file():
             print(f"web: surf.wasm isn't compared, since {given.program} isn't here")

@@ -29,12 +29,18 @@ function shapeWithout(mesh, hidden) {
   return { ...shape, faces: shape.faces.map((face) => seen[face]), starts, corners };
 }
 
+/** The edges whose ends both are vertices of what is drawn, which those of a hub aren't. */
+function seenEdges(ends, { triangles }) {
+  const seen = new Set(triangles);
+  return ends.filter((_, k) => seen.has(ends[k - (k % 2)]) && seen.has(ends[k - (k % 2) + 1]));
+}
+
 /** A line of the scene as a row of the list. */
-function rowOf({ vertices, isWalk, units, decimals }, isSeams) {
+function rowOf({ vertices, isWalk, units, decimals }, isSeams, shape) {
   if (isWalk) return walkOf([...vertices], units, decimals);
   const count = plural(vertices.length / 2, 'edge');
   const title = isSeams ? `${count} cut` : `${count} that the walk crosses oddly`;
-  return { edges: vertices, vertices: [], title };
+  return { edges: seenEdges(vertices, shape), vertices: [], title };
 }
 
 /** What the picture shows, in words. */
@@ -64,7 +70,7 @@ function show(scene, viewer) {
   viewer.showMesh(shape, title);
   if (values) viewer.showValues(values);
   viewer.showFacts(factsOf(scene, shape));
-  viewer.showWalks(lines.map((line, k) => rowOf(line, isCut && k === 0)));
+  viewer.showWalks(lines.map((line, k) => rowOf(line, isCut && k === 0, shape)));
   viewer.mark({ faces: [...marked] });
   viewer.describe(`${title}: ${words}`);
   viewer.view.pick = (vertex) => { $('said').textContent = `Vertex ${vertex}`; };
