@@ -1,5 +1,5 @@
 #!/usr/bin/env python3
-"""Tries the package `surfbasis`: its tests, the examples in its texts, docs/python.md, and its types.
+"""Tries the package `surfbasis`: its tests, the examples in its texts, docs/python.md, its notebook, and its types.
 
     check_python.py [--program PATH] [--library PATH]
 
@@ -80,6 +80,39 @@ sys.exit(any(one.failed for one in found))
 """
 
 
+# Runs the notebook in a folder as it has in the repository, and tells which cells show a picture that turns
+NOTEBOOK = """
+import os, pathlib, shutil, sys, tempfile
+import nbformat
+from nbclient import NotebookClient
+top = pathlib.Path.cwd()
+with tempfile.TemporaryDirectory() as room:
+    place = pathlib.Path(room, "python/examples")
+    place.mkdir(parents=True)
+    os.symlink(top / "meshes", pathlib.Path(room, "meshes"))
+    book = nbformat.read(top / "python/examples/basis.ipynb", 4)
+    NotebookClient(book, timeout=600, resources={"metadata": {"path": str(place)}}).execute()
+    outputs = [out for cell in book.cells if cell.cell_type == "code" for out in cell.outputs]
+    turning = sum("<iframe sandbox=" in out.get("data", {}).get("text/html", "") for out in outputs)
+    saved = (place / "basis.html").is_file()
+print(f"notebook: {turning} pictures, {'a file' if saved else 'no file'}")
+sys.exit(turning != 3 or not saved)
+"""
+
+
+def notebook_runs(python, package, program):
+    """Whether the notebook runs and shows its pictures, or can't be tried."""
+    asked = "import ipykernel, nbclient, nbformat"
+    if subprocess.run([python, "-c", asked], capture_output=True).returncode:
+        print("the notebook isn't tried, since nbclient or ipykernel isn't here")
+        return True
+    settings = {**os.environ, "PYTHONPATH": str(package.parent), "PYTHONDONTWRITEBYTECODE": "1"}
+    settings["SURFBASIS_PROGRAM"] = str(program)
+    done = subprocess.run([python, "-c", NOTEBOOK], cwd=TOP, env=settings, capture_output=True, text=True)
+    print(done.stdout.strip() or done.stderr[-2000:])
+    return not done.returncode
+
+
 def typed(package):
     """Whether mypy finds no fault, or isn't here."""
     if not shutil.which("mypy"):
@@ -109,7 +142,9 @@ def main():
             print(f"the package in Python isn't tried over the library, since {reason}")
         package = build.assemble(folder, shared)
         ways = ["program"] + (["library"] if shared else [])
-        good = all([tried(python, package, given.program.resolve(), way) for way in ways] + [typed(package)])
+        program = given.program.resolve()
+        good = all([tried(python, package, program, way) for way in ways])
+        good = all([good, notebook_runs(python, package, program), typed(package)])
     return 0 if good else 1
 
 

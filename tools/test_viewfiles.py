@@ -4,6 +4,7 @@
 What is packed is read here by the description in packing.py, and compared with the scene. That a browser shows it is
 tried by web/check.py."""
 
+import dataclasses
 import gzip
 import html.parser
 import itertools
@@ -15,19 +16,20 @@ import re
 import struct
 import sys
 import unittest
+import unittest.mock
 
 sys.path.insert(0, str(pathlib.Path(__file__).resolve().parent))
 sys.dont_write_bytecode = True
 
 import viewfiles  # noqa: E402
-from viewfiles import Mesh, Scene, Values, edge_set, packing, walk  # noqa: E402
+from viewfiles import Mesh, Scene, Values, edge_set, tables, walk  # noqa: E402
 
 POINTS = [(0.0, 0.0, 0.0), (1.0, 0.0, 0.0), (0.0, 1.0, 0.0), (0.0, 0.0, 1.0)]
 FACES = [[2, 0, 1], [0, 3, 1], [3, 0, 2], [1, 3, 2]]
 HOSTILE = "</script><img src=x onerror=alert(1)>\"'&amp;{{SCENE}}{{TITLE}}"
 
 
-class Tables:
+class Packs:
     """The tables of a packed scene, one behind the other."""
 
     def __init__(self, data):
@@ -49,23 +51,23 @@ class Read:
     """A packed scene, read."""
 
     def __init__(self, scene):
-        tables = Tables(viewfiles.packed(scene))
-        head = self.head = tables.head
+        packs = Packs(viewfiles.packed(scene))
+        head = self.head = packs.head
         count, low, step = (head["points"][name] for name in ("count", "low", "step"))
         self.step = step
-        columns = [[low[axis] + step * x for x in tables.sums(count)] for axis in range(3)]
+        columns = [[low[axis] + step * x for x in packs.sums(count)] for axis in range(3)]
         self.points = list(zip(*columns))
         count, size, added = (head["faces"][name] for name in ("count", "size", "added"))
-        sizes = [size] * count if size else tables.numbers(count)
-        self.added, firsts = tables.sums(added), tables.sums(count)
-        rest = iter(tables.numbers(sum(sizes) - count))
+        sizes = [size] * count if size else packs.numbers(count)
+        self.added, firsts = packs.sums(added), packs.sums(count)
+        rest = iter(packs.numbers(sum(sizes) - count))
         self.faces = [[first] + [first + next(rest) for _ in range(size - 1)] for first, size in zip(firsts, sizes)]
-        vertices = iter(tables.sums(sum(line["size"] for line in head["lines"])))
+        vertices = iter(packs.sums(sum(line["size"] for line in head["lines"])))
         self.lines = [[next(vertices) for _ in range(line["size"])] for line in head["lines"]]
-        self.marked = tables.sums(head["marked"])
+        self.marked = packs.sums(head["marked"])
         of = head.get("values")
-        self.values = tables.sums(len(self.faces if of["isOfFaces"] else self.points)) if of else None
-        self.is_whole = tables.at == len(tables.data)
+        self.values = packs.sums(len(self.faces if of["isOfFaces"] else self.points)) if of else None
+        self.is_whole = packs.at == len(packs.data)
 
 
 def turned(face):
@@ -116,10 +118,10 @@ class Packed(unittest.TestCase):
 
     def test_values(self):
         read = self.same(Scene("a", Mesh(POINTS, FACES), values=Values([5, -5, 0, 5], label="x")))
-        self.assertEqual((read.values, read.head["values"]["low"]), ([65535, 0, 32768, 65535], -5))
+        self.assertEqual((read.values, read.head["values"]["low"]), ([1023, 0, 512, 1023], -5))
         read = self.same(Scene("a", Mesh(POINTS, FACES), values=Values([0, 1, 2, 4], True)))
         by_face = dict(zip(map(tuple, read.faces), read.values))
-        self.assertEqual([by_face[tuple(turned(face))] for face in FACES], [0, 16384, 32768, 65535])
+        self.assertEqual([by_face[tuple(turned(face))] for face in FACES], [0, 256, 512, 1023])
         self.assertEqual(Read(Scene("a", Mesh(POINTS, FACES), values=Values([3] * 4))).values, [0] * 4)
 
     def test_polygons_and_orders(self):
@@ -138,8 +140,22 @@ class Packed(unittest.TestCase):
             viewfiles.packed(Scene("a", Mesh(POINTS, FACES, [True] * 4)))
 
     def test_tables(self):
-        self.assertEqual(packing.planes([1, 258]), bytes([1, 2, 0, 1, 0, 0, 0, 0]))
-        self.assertEqual(packing.steps([3, 1]), bytes([6, 3, 0, 0, 0, 0, 0, 0]))
+        self.assertEqual(tables.planes([1, 258]), bytes([1, 2, 0, 1, 0, 0, 0, 0]))
+        self.assertEqual(tables.steps([3, 1]), bytes([6, 3, 0, 0, 0, 0, 0, 0]))
+
+    @unittest.skipUnless(tables.np, "numpy isn't here")
+    def test_the_same_bytes_without_numpy(self):
+        polygons = Mesh([*POINTS, (1.0, 1.0, 0.0)], [[4, 2, 0, 1], [0, 3, 1], [3, 0, 2], [1, 3, 2, 4]])
+        for mesh in (polygons, Mesh(*torus(30, 20, seed=1)), Mesh(POINTS, FACES, [False, True, False, False])):
+            scene = Scene("a", mesh, marked=[1, 2], values=Values(range(len(mesh.points))))
+            arrays = Mesh(tables.np.array(mesh.points), mesh.faces, mesh.is_added)
+            if len({len(face) for face in mesh.faces}) == 1:
+                arrays = Mesh(arrays.points, tables.np.array(mesh.faces), mesh.is_added)
+            found = [viewfiles.packed(scene), viewfiles.packed(dataclasses.replace(scene, mesh=arrays))]
+            with unittest.mock.patch.object(tables, "np", None):
+                found.append(viewfiles.packed(scene))
+            self.assertEqual(found[0], found[1])
+            self.assertEqual(found[0], found[2])
 
 
 class Markup(html.parser.HTMLParser):

@@ -259,7 +259,7 @@ test('a scene is read', () => {
     lines: [{ size: 4, isWalk: true, units: 12, decimals: 1 }, { size: 2, isWalk: false, units: null, decimals: 0 }],
   };
   const points = [steps(0, 2, 0), steps(4, 0, 0), steps(0, 0, 70000)], faces = [table(3, 3), steps(1), steps(0, 0)];
-  const rest = [table(1, 2, 2, 1), steps(0, 1, 2, 0, 2, 1), steps(0), steps(0, 65535, 0)];
+  const rest = [table(1, 2, 2, 1), steps(0, 1, 2, 0, 2, 1), steps(0), steps(0, 1023, 0)];
   const scene = readScene(sceneOf(head, ...points, ...faces, ...rest));
   // The third axis becomes the second one, which is the upright one of the picture.
   assert.deepEqual([...scene.mesh.points], [1, 0, -0, 2, 0, 2, 1, 35000, 2]);

@@ -3,7 +3,8 @@
     scene = Scene("eight", mesh, lines=[walk([0, 1, 2, 0], units=31, decimals=1)])
     pathlib.Path("eight.html").write_text(html(scene))
 
-The file asks no other machine for anything. Standard library alone.
+The file asks no other machine for anything. Standard library alone; where numpy can be imported it does the work on
+whole tables, and the bytes are the same.
 """
 
 from .packing import packed

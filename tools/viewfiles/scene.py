@@ -3,20 +3,20 @@
 from __future__ import annotations
 
 from dataclasses import dataclass
-from typing import Iterable, List, Optional, Sequence, Tuple
+from typing import Any, Iterable, List, Optional, Sequence, Tuple
 
 
 @dataclass(frozen=True)
 class Mesh:
     """A mesh in space.
 
-    points:   three coordinates for each vertex
-    faces:    the vertices of each face, three or more
+    points:   three coordinates for each vertex: a sequence of sequences, or an array
+    faces:    the vertices of each face, three or more: as `points`, or a sequence of arrays
     is_added: for each face whether it was added to close holes, so that it isn't drawn; empty where none was
     """
 
-    points: Sequence[Sequence[float]]
-    faces: Sequence[Sequence[int]]
+    points: Any
+    faces: Any
     is_added: Sequence[bool] = ()
 
 

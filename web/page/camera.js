@@ -29,6 +29,11 @@ export class Camera {
     this.shift = [this.shift[0] + right, this.shift[1] + up];
   }
 
+  /** How many pixels long a length of 1 is that lies across, in a picture of this size. */
+  pixels(width, height) {
+    return (0.875 * this.zoom * Math.min(width, height)) / 2;
+  }
+
   /** The turning alone, and the whole way from a place of the mesh to a picture of this shape; column by column. */
   matrices(width, height) {
     const [a, b] = this.turn, ca = Math.cos(a), sa = Math.sin(a), cb = Math.cos(b), sb = Math.sin(b);

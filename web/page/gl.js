@@ -57,6 +57,20 @@ function compiled(gl, [vertex, fragment]) {
 /** So many edges of one line are painted wide; more are painted as thin lines, for the sake of speed. */
 const MOST_WIDE = 100000;
 
+/** Edges of the mesh that are shorter in pixels are left out: they would only darken the faces, and take most time. */
+const LEAST_EDGE = 2.5;
+
+/** The mean length of edges, by some thousand of them. */
+function meanEdge(points, edges) {
+  const skip = 2 * Math.max(1, Math.floor(edges.length / 2000));
+  let sum = 0, count = 0;
+  for (let k = 0; k + 1 < edges.length; k += skip, count++) {
+    const u = 3 * edges[k], v = 3 * edges[k + 1];
+    sum += Math.hypot(points[u] - points[v], points[u + 1] - points[v + 1], points[u + 2] - points[v + 2]);
+  }
+  return count ? sum / count : 0;
+}
+
 export class GlPainter {
   /** @param {WebGL2RenderingContext} gl */
   constructor(gl) {
@@ -78,6 +92,7 @@ export class GlPainter {
     this.points = points;
     this.sizes = { triangles: triangles.length, edges: edges.length, marked: 0 };
     this.values = null;
+    this.edge = meanEdge(points, edges);
     this.fill('points', points);
     this.fill('triangles', triangles, this.gl.ELEMENT_ARRAY_BUFFER);
     this.fill('edges', edges, this.gl.ELEMENT_ARRAY_BUFFER);
@@ -183,7 +198,9 @@ export class GlPainter {
     gl.polygonOffset(0, 0);
     this.paintFaces('marked', { turn, whole, colour: shares(tint) });
     gl.disable(gl.POLYGON_OFFSET_FILL);
-    this.paintWires(whole, this.buffers.edges, this.sizes.edges, [...shares(colours.wire), this.faintness()]);
+    if (this.edge * camera.pixels(width, height) > LEAST_EDGE * ratio) {
+      this.paintWires(whole, this.buffers.edges, this.sizes.edges, [...shares(colours.wire), this.faintness()]);
+    }
     this.paintLines(whole, colours.faint, ratio);
   }
 

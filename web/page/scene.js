@@ -60,7 +60,7 @@ function readLines(tables, heads) {
 }
 
 function readValues(tables, { isOfFaces, low, high, label }, count) {
-  return { isOfFaces, low, high, label, parts: Float32Array.from(tables.sums(count), (x) => x / 65535) };
+  return { isOfFaces, low, high, label, parts: Float32Array.from(tables.sums(count), (x) => x / 1023) };
 }
 
 /**

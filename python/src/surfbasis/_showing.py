@@ -3,12 +3,12 @@
 from __future__ import annotations
 
 import pathlib
-from typing import TYPE_CHECKING, Any, Iterable, List, NamedTuple, Optional, Sequence
+from typing import TYPE_CHECKING, Any, Iterable, List, NamedTuple, Optional
 
 import numpy as np
 
 from . import viewfiles
-from ._answers import Cut, Distances, Evidence, Polygons, Walk
+from ._answers import Cut, Distances, Evidence, Walk
 from ._callers import Path
 
 if TYPE_CHECKING:
@@ -73,15 +73,9 @@ def scene_of(surface: Surface, shown: Any, look: Look) -> viewfiles.Scene:
     is_added = [] if origins is None or (origins >= 0).all() else (origins < 0).tolist()
     seams = shown.seams.tolist() if isinstance(shown, Cut) else None
     marked = shown.faces.tolist() if isinstance(shown, Evidence) and shown.faces is not None else []
-    mesh = viewfiles.Mesh(vertices.tolist(), _listed(surface.faces), is_added)
+    mesh = viewfiles.Mesh(vertices, surface.faces, is_added)
     values = _values_of(surface, shown, look)
     return viewfiles.Scene(look.title, mesh, _lines(shown), seams, marked, values, look.turn, look.tilt)
-
-
-def _listed(faces: Polygons) -> Sequence[Sequence[int]]:
-    listed: Sequence[Sequence[int]]
-    listed = faces.tolist() if isinstance(faces, np.ndarray) else [face.tolist() for face in faces]
-    return listed
 
 
 def _lines(shown: Any) -> List[viewfiles.Line]:
