@@ -1,11 +1,12 @@
 #!/usr/bin/env python3
-"""Makes the add-on for Blender, surf_blender.zip, with the package `surfbasis` and the library inside.
+"""Makes the add-on for Blender, surf_blender.zip, with the package `surfbasis` and its libraries inside.
 
-    build.py --to FOLDER [--library ARCHIVE]
+    build.py --to FOLDER [--library ARCHIVE] [--alone]
 
-The library is `crates/surf_c/out/libsurf_c.a`, which release/libraries.py makes; `cc` and `rt` link it. Of the
-package the zip has all that its wheel has. The same commit gives the same bytes: files are dated to
-SOURCE_DATE_EPOCH, or to the commit.
+The proved library is `crates/surf_c/out/libsurf_c.a`, which release/libraries.py makes; `cc` and `rt` link it. Beside
+it stand those for other systems that elsewhere/native.py can make here, or with --alone none. Of the package the zip
+has all that its wheel has. The same commit gives the same bytes: files are dated to SOURCE_DATE_EPOCH, or to the
+commit.
 """
 
 import argparse
@@ -26,23 +27,27 @@ MARK = re.compile(r'"version": \(0, 0, 0\),.*')
 
 def package_maker():
     """python/build.py, which puts the package together; this module has its name."""
-    spec = importlib.util.spec_from_file_location("build_package", TOP / "python/build.py")
+    return module_at(TOP / "python/build.py")
+
+
+def module_at(path):
+    spec = importlib.util.spec_from_file_location(f"{path.stem}_of_{path.parent.name}", path)
     module = importlib.util.module_from_spec(spec)
     spec.loader.exec_module(module)
     return module
 
 
-def assemble(folder, shared=None):
-    """Puts the add-on together in a folder, with the shared library inside where there is one, and returns its
-    path."""
+def assemble(folder, inside=None):
+    """Puts the add-on together in a folder, with shared libraries by their names inside, of which the proved one, where
+    there are any, tells the version; and returns its path."""
     maker = package_maker()
     addon = pathlib.Path(folder) / NAME
     addon.mkdir(parents=True)
     for path in (HERE / "addon").glob("*.py"):
         shutil.copy(path, addon)
-    package = maker.assemble(addon, shared)
-    version = re.search(r'VERSION = "(.*)"', (package / "_version.py").read_text())[1]
-    if shared:
+    version = maker.version_of(inside["libsurf.so"]) if inside else "0"
+    maker.assemble(addon, inside, version)
+    if inside:
         start, found = addon / "__init__.py", tuple(map(int, version.split(".")))
         start.write_text(MARK.sub(f'"version": {found},', start.read_text()))
     return addon
@@ -60,16 +65,22 @@ def write_zip(addon, path, seconds):
                 archive.writestr(entry, file.read_bytes())
 
 
-def make(to, library):
-    """The zip, in a folder, with the library of an archive, or without one."""
+def libraries_elsewhere():
+    """The libraries for other systems that can be made here, by their names."""
+    return {path.name: path for path in module_at(TOP / "elsewhere/native.py").made().values()}
+
+
+def make(to, library, elsewhere=None):
+    """The zip, in a folder, with the library of an archive and those for other systems, or without any."""
     maker = package_maker()
     to.mkdir(parents=True, exist_ok=True)
     with tempfile.TemporaryDirectory() as room:
-        shared = None
+        inside = {}
         if library:
             shared = pathlib.Path(room, "libsurf.so")
             maker.libraries.link_shared(shared, shared.name, library)
-        write_zip(assemble(pathlib.Path(room, "addon"), shared), to / f"{NAME}.zip", maker.proof.commit_time())
+            inside = {shared.name: shared, **(elsewhere or {})}
+        write_zip(assemble(pathlib.Path(room, "addon"), inside), to / f"{NAME}.zip", maker.proof.commit_time())
     return to / f"{NAME}.zip"
 
 
@@ -77,8 +88,9 @@ def main():
     parser = argparse.ArgumentParser(description=__doc__, formatter_class=argparse.RawDescriptionHelpFormatter)
     parser.add_argument("--to", type=pathlib.Path, required=True)
     parser.add_argument("--library", type=pathlib.Path, default=TOP / "crates/surf_c/out/libsurf_c.a")
+    parser.add_argument("--alone", action="store_true")
     given = parser.parse_args()
-    print(make(given.to, given.library.resolve()))
+    print(make(given.to, given.library.resolve(), {} if given.alone else libraries_elsewhere()))
     return 0
 
 

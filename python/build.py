@@ -18,6 +18,7 @@ import shutil
 import subprocess
 import sys
 import tempfile
+from typing import NamedTuple
 
 HERE = pathlib.Path(__file__).resolve().parent
 TOP = HERE.parent
@@ -35,6 +36,23 @@ PAGE = TOP / "docs/refusals.md"
 ALLOWED = {"libc.so.6", "ld-linux-x86-64.so.2"}  # what the library may ask for, so that it runs on all Linux systems
 OLDEST = 17  # the least 2.N of the GNU C library that a tag can name
 MAKERS = ("numpy", "pip", "setuptools", "venv", "wheel")
+
+
+class Kind(NamedTuple):
+    """What is said of a wheel or of a source distribution: a summary, its systems as trove classifiers, and a sentence
+    on the library inside."""
+
+    summary: str
+    systems: tuple[str, ...]
+    library: str
+
+
+# What pyproject.toml and README.md say; in other kinds their words stand in its place.
+PROVED = Kind(
+    "Proved shortest homology bases (mod 2), loops and cuts of closed surface meshes",
+    ("Operating System :: POSIX :: Linux",),
+    "It comes with the program as a shared library, for Linux on x86-64-v2.",
+)
 
 
 class Said(ctypes.Structure):
@@ -61,9 +79,8 @@ def platform_of(library):
     return f"manylinux_2_{newest}_x86_64{old_name}"
 
 
-def assemble(folder, library=None):
-    """Puts the package together in a folder, with the shared library inside where there is one, and returns its
-    path."""
+def assemble(folder, inside=None, version="0"):
+    """Puts the package together in a folder, with shared libraries by their names inside, and returns its path."""
     package = pathlib.Path(folder) / "surfbasis"
     for source, name in FOLDERS:
         (package / name).mkdir(parents=True)
@@ -71,12 +88,24 @@ def assemble(folder, library=None):
             shutil.copy(path, package / name / path.name)
     shutil.copy(PAGE, package / PAGE.name)
     (package / "viewfiles/viewer.html").write_text(bundle.viewer(), encoding="utf-8")
-    version = version_of(library) if library else "0"
     rows = '"""The version of surf that the package was made with; 0 where no library came with it."""\n\n'
     (package / "_version.py").write_text(f'{rows}VERSION = "{version}"\n')
-    if library:
-        shutil.copy(library, package / "libsurf.so")
+    for name, library in (inside or {}).items():
+        shutil.copy(library, package / name)
     return package
+
+
+def describe(folder, kind):
+    """Puts pyproject.toml and README.md of a kind into a folder."""
+    systems = [", ".join(f'"{name}"' for name in it.systems) for it in (PROVED, kind)]
+    words = [(PROVED.summary, kind.summary), (PROVED.library, kind.library)]
+    for name, changes in (("pyproject.toml", [words[0], tuple(systems)]), ("README.md", words)):
+        text = (HERE / name).read_text()
+        for old, new in changes:
+            if text.count(old) != 1:
+                raise SystemExit(f"{name} doesn't say once: {old}")
+            text = text.replace(old, new)
+        pathlib.Path(folder, name).write_text(text)
 
 
 def interpreter():
@@ -88,14 +117,14 @@ def interpreter():
     raise SystemExit(f"an interpreter with {', '.join(MAKERS)} isn't here")
 
 
-def made(python, library, to):
-    """The wheel."""
+def made(python, inside, version, platform, kind, to):
+    """The wheel of a kind for a platform, with libraries inside."""
     with tempfile.TemporaryDirectory() as room:
-        for name in ("pyproject.toml", "setup.py", "README.md"):
-            shutil.copy(HERE / name, room)
-        assemble(pathlib.Path(room, "src"), library)
+        describe(room, kind)
+        shutil.copy(HERE / "setup.py", room)
+        assemble(pathlib.Path(room, "src"), inside, version)
         words = ["wheel", "--quiet", "--no-build-isolation", "--no-deps", "--no-index", "--wheel-dir", to, room]
-        settings = {"SOURCE_DATE_EPOCH": str(proof.commit_time()), "SURFBASIS_PLATFORM": platform_of(library)}
+        settings = {"SOURCE_DATE_EPOCH": str(proof.commit_time()), "SURFBASIS_PLATFORM": platform}
         subprocess.run([python, "-m", "pip", *words], check=True, env={**os.environ, **settings})
     return max(pathlib.Path(to).glob("surfbasis-*.whl"), key=lambda path: path.stat().st_mtime)
 
@@ -125,7 +154,8 @@ def main():
     with tempfile.TemporaryDirectory() as room:
         shared = pathlib.Path(room, "libsurf.so")
         libraries.link_shared(shared, shared.name, given.library.resolve())
-        wheel = made(python, shared, given.to.resolve())
+        inside, platform = {shared.name: shared}, platform_of(shared)
+        wheel = made(python, inside, version_of(shared), platform, PROVED, given.to.resolve())
     if not tried(python, wheel, given.program.resolve()):
         print(f"{wheel.name} fails its tests in a fresh environment")
         return 1

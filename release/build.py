@@ -50,6 +50,19 @@ OTHERS = [
     Other("the page for browsers", ["web/build.py", "--to"], "surf.html", ["web/check.py", "--built"]),
     Other("the add-on for Blender", ["blender/build.py", "--to"], "*.zip"),
 ]
+# For other systems: what elsewhere/build.py makes by these names.
+ELSEWHERE = {
+    "linux-aarch64": "the wheel for Linux on aarch64",
+    "windows-x86_64": "the wheel and the program for Windows",
+    "macos-arm64": "the untried wheel for macOS on Apple's processors",
+    "macos-x86_64": "the untried wheel for macOS on x86-64",
+    "sdist": "the source distribution",
+    "node": "the package for node",
+}
+OTHERS += [
+    Other(what, ["elsewhere/build.py", part, "--to"], "surf*", ["elsewhere/check.py", part, "--built"])
+    for part, what in ELSEWHERE.items()
+]
 # How these say that a tool is missing which is no part of the set-up.
 LACKING = r"isn't here$|^no interpreter has"
 
@@ -127,6 +140,13 @@ def make_other(other: Other, out: pathlib.Path, time: int) -> None:
             shutil.copy(path, out / path.name)
 
 
+def make_shared() -> None:
+    """Makes what several of the others have inside: the libraries for other systems, and the module of WebAssembly."""
+    for name in ("native.py", "wasm.py"):
+        if (TOP / "elsewhere" / name).exists():
+            print(proof.ran([sys.executable, TOP / "elsewhere" / name]), end="")
+
+
 def write_sums(out: pathlib.Path) -> None:
     names = sorted(path.name for path in out.iterdir())
     (out / "SHA256SUMS").write_text("".join(f"{proof.checksum(out / name)}  {name}\n" for name in names))
@@ -144,6 +164,7 @@ def release(log: pathlib.Path | None, out: pathlib.Path) -> None:
         date = versions.day(time)
         texts = pages(built / "surf", "surf", date) | pages(built / "surf", packages.NAME, date)
         made = make_packages(packages.Parts(version, time, built, texts), gate, out)
+    make_shared()
     make_and_try(made, out, time)
     write_sums(out)
 

@@ -181,7 +181,7 @@ def link_program(to: pathlib.Path, made: pathlib.Path) -> None:
 
 def needed_glibc(path: pathlib.Path) -> str:
     """The least version of the GNU C library that a file asks for."""
-    found = re.findall(r"GLIBC_([0-9.]+)", ran(["objdump", "-T", path]))
+    found = re.findall(r"GLIBC_([0-9.]+)", ran(["readelf", "--dyn-syms", "-W", path]))
     return max(found, key=lambda it: [int(part) for part in it.split(".")])
 
 

@@ -140,7 +140,7 @@ def main():
         shared, reason = shared_library(given.library.resolve(), pathlib.Path(folder))
         if reason:
             print(f"the package in Python isn't tried over the library, since {reason}")
-        package = build.assemble(folder, shared)
+        package = build.assemble(folder, {shared.name: shared} if shared else {})
         ways = ["program"] + (["library"] if shared else [])
         program = given.program.resolve()
         good = all([tried(python, package, program, way) for way in ways])

@@ -1,12 +1,13 @@
 #!/usr/bin/env python3
 """Runs sheets of worked cases against a built program.
 
-    run_cases.py [--program PATH] [SHEET ..]
+    run_cases.py [--program PATH] [--unwatched] [SHEET ..]
 
 Where no program is named, the cases run on crates/surf/out/surf, as LLVM makes it, if it is there, and on surf.by-rattle
 beside it, as Rattle's own compiler does, if it was made no earlier. Where no sheet is named they are those of
 tools/cases, which people wrote, and those that tools/worked_cases.py makes. Each case runs in
 a folder with its files. A case that goes otherwise than is due is printed, and the last line is 'N passed, M failed'.
+With --unwatched it doesn't matter which files are opened.
 
 A sheet is read by lines:
 
@@ -128,7 +129,7 @@ def told(names):
     return [name for at, name in enumerate(names) if at == 0 or names[at - 1] != name]
 
 
-def run_sheet(program, name, text):
+def run_sheet(program, name, text, is_watched):
     """How many cases of a sheet pass and fail."""
     shared, cases = cases_of(text)
     failed = 0
@@ -142,7 +143,7 @@ def run_sheet(program, name, text):
         if not is_due(got, case, out):
             failed += 1
             print(f"{where}: {got!r:.2000}")
-        elif "begins" in case and opened != told([name for name in case["begins"] if name in files]):
+        elif is_watched and "begins" in case and opened != told([name for name in case["begins"] if name in files]):
             failed += 1
             print(f"{where}: opened {opened}")
     return len(cases) - failed, failed
@@ -151,6 +152,7 @@ def run_sheet(program, name, text):
 def main():
     args = argparse.ArgumentParser(description=__doc__, formatter_class=argparse.RawDescriptionHelpFormatter)
     args.add_argument("--program", type=pathlib.Path)
+    args.add_argument("--unwatched", action="store_true")
     args.add_argument("sheets", nargs="*", type=pathlib.Path)
     args = args.parse_args()
     programs = [path.resolve() for path in ([args.program] if args.program else newest(BUILT)) if path.exists()]
@@ -160,7 +162,8 @@ def main():
     sheets = [(path.name, path.read_bytes().decode()) for path in args.sheets or sorted(SHEETS.glob("*.cases"))]
     if not args.sheets:
         sheets += [(sheet.name, sheet.text()) for sheet in worked_cases.sheets()]
-    passed, failed = map(sum, zip(*(run_sheet(program, *sheet) for program in programs for sheet in sheets)))
+    ran = [run_sheet(program, *sheet, not args.unwatched) for program in programs for sheet in sheets]
+    passed, failed = map(sum, zip(*ran))
     print(f"{passed} passed, {failed} failed")
     return 1 if failed else 0
 

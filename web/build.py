@@ -26,6 +26,8 @@ TOP = WEB.parent
 sys.path.append(str(TOP / "release"))
 import bundle  # noqa: E402
 import libraries  # noqa: E402
+import modules  # noqa: E402
+from modules import NARROW  # noqa: E402
 from proof import Refused, kit_folder  # noqa: E402
 
 SAMPLES = ["ring", "eight", "three", "noisy"]
@@ -34,15 +36,10 @@ SAMPLES = ["ring", "eight", "three", "noisy"]
 LAYOUT = "e-m:e-p:64:64-p10:8:8-p20:8:8-i64:64-i128:128-n32:64-S128-ni:1:10:20"
 TARGET = ["--target=wasm64-unknown-unknown", "-mcpu=lime1", "--no-default-config", "-no-canonical-prefixes"]
 TARGET += ["-ffunction-sections"]
-NARROW = ["-mllvm", "-expand-div-rem-bits=64", "-mllvm", "-expand-fp-convert-bits=64"]
 BY_HAND = ["-O2", "-fwrapv", "-fno-builtin", "-ffreestanding", "-nostdinc", "-Wall", "-Wextra", "-Werror"]
 EXPORTS = ["surf_call", "surf_take", "surf_give"]
 STACK = 1 << 20
 FEATURES = ["memory64", "bulk-memory", "mutable-globals", "sign-ext", "nontrapping-float-to-int", "multivalue"]
-
-# What the module may ask for beside LLVM's own functions, and what its attributes may say of the processor.
-ASKED = {"rattle_alloc", "rattle_realloc", "rattle_dealloc", "memcpy", "memmove", "memset", "memcmp"}
-OF_PROCESSOR = {"probe-stack", "stack-probe-size", "target-cpu", "target-features", "frame-pointer"}
 
 
 def stop(sentence):
@@ -65,50 +62,10 @@ def missing():
     return next((words for name, words in tools.items() if not shutil.which(name)), None)
 
 
-def module_of_crate(kit, work):
-    """The LLVM module of surf_c as text, and the line that says that it is proved."""
-    try:
-        libraries.make()
-    except Refused as fault:
-        stop(fault)
-    flags = ["--target=x86_64-unknown-linux-gnu", "-Xclang", "-disable-llvm-passes", "-S", "-emit-llvm", "-x", "ir"]
-    ran([kit / "toolchain/bin/clang", *flags, libraries.MODULE, "-o", work / "module.ll"])
-    return (work / "module.ll").read_text(), libraries.VERDICT.read_text().strip()
-
-
-def unmet(text):
-    """What the module has that wasn't met before and might mean something else in WebAssembly, or nothing."""
-    if "llvm.x86." in text:
-        return "instructions of x86"
-    if re.search(r"^ .* asm ", text, re.M):
-        return "code in assembly"
-    if re.search(r"^ .*\b(fence|cmpxchg|atomicrmw|invoke|landingpad)\b", text, re.M) or "thread_local" in text:
-        return "threads or unwinding"
-    declared = set(re.findall(r"^declare .*?@([\w.$]+)\(", text, re.M))
-    strange = sorted(name for name in declared - ASKED if not name.startswith("llvm."))
-    if strange:
-        return f"calls of {', '.join(strange)}"
-    words = {name for row in re.findall(r"^attributes .*$", text, re.M) for name in re.findall(r'"([^"]*)"="', row)}
-    strange = sorted(words - OF_PROCESSOR)
-    return f"the attributes {', '.join(strange)}" if strange else None
-
-
-def for_wasm(text):
-    """The module with the layout and the target of 64-bit WebAssembly, and without what its attributes say of x86."""
-    text = re.sub(r"^target datalayout = .*$", f'target datalayout = "{LAYOUT}"', text, flags=re.M)
-    text = re.sub(r"^target triple = .*$", 'target triple = "wasm64-unknown-unknown"', text, flags=re.M)
-    spoken = re.compile(f'"({"|".join(sorted(OF_PROCESSOR))})"="[^"]*"')
-
-    def row(found):
-        return re.sub(r"= \{ *\}", "= { nounwind }", spoken.sub("", found[0]))
-
-    return re.sub(r"^attributes .*$", row, text, flags=re.M)
-
-
 def compiled(text, kit, work):
     """The object files of the module and of the two files in C."""
     clang = kit / "toolchain/bin/clang"
-    (work / "wasm.ll").write_text(for_wasm(text))
+    (work / "wasm.ll").write_text(modules.moved(text, LAYOUT, "wasm64-unknown-unknown"))
     ran([clang, *TARGET, *NARROW, "-O3", "-c", "-x", "ir", work / "wasm.ll", "-o", work / "surf.o"])
     for name in ("heap", "wide"):
         ran([clang, *TARGET, *NARROW, *BY_HAND, "-c", WEB / f"{name}.c", "-o", work / f"{name}.o"])
@@ -180,11 +137,12 @@ def checked(wasm):
 def module_for_browsers(work):
     """surf.wasm, and the line that says that its code is proved."""
     kit = kit_folder()
-    text, verdict = module_of_crate(kit, work)
-    strange = unmet(text)
-    if strange:
-        stop(f"the LLVM module of surf_c has {strange}, which wasn't met before")
-    return checked(linked(compiled(text, kit, work), kit, work)), verdict
+    try:
+        libraries.make()
+        text = modules.module_text()
+    except Refused as fault:
+        stop(fault)
+    return checked(linked(compiled(text, kit, work), kit, work)), libraries.VERDICT.read_text().strip()
 
 
 def page_of(wasm):

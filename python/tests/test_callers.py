@@ -13,9 +13,9 @@ from unittest import mock
 import numpy as np
 import surfbasis
 from support import CORNERS, CUBE, PROGRAM, off_text, read, torus, walks_of
-from surfbasis import _callers, _processor
+from surfbasis import _callers, _library, _processor
 
-LIBRARY = os.path.join(os.path.dirname(surfbasis.__file__), "libsurf.so")
+LIBRARY = os.fspath(_library.own_library())
 HAS_LIBRARY = unittest.skipUnless(os.path.isfile(LIBRARY), "the package has no library")
 TETRAHEDRON = b"OFF\n4 4 6\n0 0 0\n1 0 0\n0 1 0\n0 0 1\n3 0 1 2\n3 0 3 1\n3 0 2 3\n3 1 3 2\n"
 CALLS = [
@@ -190,10 +190,27 @@ class Processor(unittest.TestCase):
             path = os.path.join(folder, "cpuinfo")
             pathlib.Path(path).write_text(self.FLAGS.replace(" sse4_2", ""))
             with self.assertRaisesRegex(ImportError, "x86-64-v2; this one lacks sse4_2"):
-                _processor.test_processor(path)
-            _processor.test_processor(os.path.join(folder, "nowhere"))
-        with mock.patch("platform.machine", return_value="aarch64"):
-            _processor.test_processor("/nowhere")
+                _processor.test_processor(True, path)
+            _processor.test_processor(False, path)
+            _processor.test_processor(True, os.path.join(folder, "nowhere"))
+            with mock.patch("platform.machine", return_value="aarch64"):
+                _processor.test_processor(True, path)
+
+
+class Libraries(unittest.TestCase):
+    def test_each_system_has_its_own(self):
+        names = [("linux", "x86_64"), ("linux", "aarch64"), ("win32", "AMD64"), ("darwin", "arm64"), ("freebsd14", "amd64")]
+        due = ["libsurf.so", "libsurf-aarch64.so", "surf.dll", "libsurf-arm64.dylib", "libsurf-c.so"]
+        self.assertEqual([_library.own_name(*it) for it in names], due)
+
+    def test_one_of_c_stands_in(self):
+        with tempfile.TemporaryDirectory() as name:
+            folder = pathlib.Path(name)
+            self.assertEqual(_library.own_library(folder), folder / _library.own_name())
+            (folder / _library.FROM_C).touch()
+            self.assertEqual(_library.own_library(folder), folder / _library.FROM_C)
+            (folder / _library.own_name()).touch()
+            self.assertEqual(_library.own_library(folder), folder / _library.own_name())
 
 
 if __name__ == "__main__":

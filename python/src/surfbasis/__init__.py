@@ -14,9 +14,10 @@
 Every answer is that of surf, whose answers are proved; this package hands meshes over to it as text, and is tested.
 """
 
+from ._processor import has_proved_library as _has_proved_library
 from ._processor import test_processor as _test_processor
 
-_test_processor()
+_test_processor(_has_proved_library())
 
 from ._answers import Cut, Distances, Evidence, Info, Polygons, Verdict, Walk, Walks  # noqa: E402
 from ._callers import Ended, Library, Program, TimedOut, use  # noqa: E402

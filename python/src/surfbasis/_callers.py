@@ -13,10 +13,13 @@ from typing import Optional, Protocol, Sequence, Tuple, Union
 import numpy as np
 import numpy.typing as npt
 
+from ._library import own_library
+
 Path = Union[str, "os.PathLike[str]"]
 
 LEAST_ROOM = 1 << 12
 GREATEST_ROOM = 1 << 30  # surf gives no longer answer
+FAULT = 255  # no status of surf: a library that was made of C says so where the C was compiled wrongly
 
 
 class TimedOut(TimeoutError):
@@ -24,7 +27,8 @@ class TimedOut(TimeoutError):
 
 
 class Ended(RuntimeError):
-    """The program was ended by a signal before it answered."""
+    """The program was ended by a signal before it answered, or the library gave a call up by a fault, which it does only
+    where it was translated or compiled wrongly."""
 
 
 class Caller(Protocol):
@@ -61,7 +65,10 @@ class Library:
         while True:
             said = self._call(*pairs, space.ctypes.data, len(space))
             if said.size <= len(space):
-                return said.status, space[: said.size].tobytes()
+                text = space[: said.size].tobytes()
+                if said.status == FAULT:
+                    raise Ended(text.decode().strip())
+                return said.status, text
             space = np.empty(said.size, np.uint8)  # the whole work is done once more
 
 
@@ -126,7 +133,7 @@ def default_caller() -> Caller:
     if program:
         seconds = os.environ.get("SURFBASIS_SECONDS")
         return Program(program, float(seconds) if seconds else None)
-    library = os.environ.get("SURFBASIS_LIBRARY") or os.fspath(pathlib.Path(__file__).with_name("libsurf.so"))
+    library = os.environ.get("SURFBASIS_LIBRARY") or os.fspath(own_library())
     if not os.path.isfile(library):
         raise FileNotFoundError(f"{library} isn't there; SURFBASIS_LIBRARY or SURFBASIS_PROGRAM may name another")
     return Library(library)

@@ -1,10 +1,12 @@
-"""Whether this processor has the instructions that the library in the package is made of."""
+"""Whether this processor has the instructions that the proved library is made of. Other libraries ask for none."""
 
 from __future__ import annotations
 
 import pathlib
 import platform
 from typing import List
+
+from ._library import PROVED, own_library
 
 # x86-64-v2, by the names that Linux has for its parts
 NEEDED = ("cx16", "lahf_lm", "popcnt", "pni", "sse4_1", "sse4_2", "ssse3")
@@ -18,9 +20,15 @@ def lacking(told: str) -> List[str]:
     return [] if flags is None else [part for part in NEEDED if part not in flags]
 
 
-def test_processor(path: str = "/proc/cpuinfo") -> None:
-    """Raises ImportError where the library would end the process by an instruction that isn't there."""
-    if platform.machine() != "x86_64":
+def has_proved_library() -> bool:
+    """Whether the library in the package for this system is the proved one."""
+    library = own_library()
+    return library.name == PROVED and library.is_file()
+
+
+def test_processor(is_proved: bool, path: str = "/proc/cpuinfo") -> None:
+    """Raises ImportError where the proved library would end the process by an instruction that isn't there."""
+    if platform.machine() != "x86_64" or not is_proved:
         return
     try:
         missing = lacking(pathlib.Path(path).read_text())
