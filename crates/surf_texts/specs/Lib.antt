@@ -13,6 +13,7 @@ pub mod MeshLines
 pub mod Outcome
 pub mod PointLines
 pub mod Refusals
+pub mod Rereading
 pub mod SewingLines
 pub mod SummaryTexts
 pub mod SurfaceLines
