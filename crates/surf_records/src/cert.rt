@@ -128,7 +128,7 @@ impl BasisCert {
     }
 }
 
-/// A certificate of one of the two kinds.
+/// A certificate of one of the two kinds whose text is read and written.
 #[derive(Drop)]
 pub enum Cert {
     Loops(LoopCert),

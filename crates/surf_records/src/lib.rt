@@ -1,8 +1,8 @@
 //! The records of certificates that a system of loops or a basis of cycles is least.
 //!
 //! A certificate is plain data: trees of shortest walks with distances and parents, a tree of faces
-//! with depths and sides, the edges that are left, and the cycles of a basis. Nothing of it is
-//! trusted here: whether a certificate is valid for a mesh is asked elsewhere. Contracts see each
+//! with depths and sides, the edges that are left, and the cycles of a basis. A certificate by
+//! sheets has cycles, cocycles and sheets in their place. Nothing of it is trusted here: whether a certificate is valid for a mesh is asked elsewhere. Contracts see each
 //! record as the record of its plain lists, so two certificates are the same where these lists are.
 //!
 //! Searches make such records and a checker reads them, so no file format stands below them: the
@@ -14,6 +14,8 @@
 
 mod cert;
 mod rows;
+mod sheets;
 
 pub use cert::{BasisCert, Cert, LoopCert};
 pub use rows::{DualRows, TreeRows};
+pub use sheets::{SheetCert, SheetRow};
