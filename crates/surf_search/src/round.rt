@@ -232,15 +232,15 @@ pub(crate) fn has_many_edges(mesh: &HalfMesh, v: VertexId) -> bool
     mesh.ring_edges(v).len() > MANY_EDGES
 }
 
-// The rank of a vertex among those of one cap. Multiples of 8 are first, in the order of their bits
-// read backwards, which scatters them over the whole surface. The others follow in blocks of 4,096
+// The rank of a vertex among those of one cap. Multiples of 16 are first, in the order of their bits
+// read backwards, which scatters them over the whole surface. The others follow in blocks of 1,024
 // numbers, scattered within each: what one search has read is still near at hand for the next.
 fn rank_of(v: VertexId) -> u32 {
     let number = v.number();
-    if number & 7 == 0 {
+    if number & 15 == 0 {
         return number.reverse_bits();
     }
-    1 << 29 | number & !4095 | (number & 4095).reverse_bits() >> 20
+    1 << 29 | number & !1023 | (number & 1023).reverse_bits() >> 22
 }
 
 // Lists the ranks of the vertices of a list. Those with many edges are first, since whoever comes
