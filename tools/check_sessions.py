@@ -128,8 +128,8 @@ def check(path, program, counts):
         counts.faults += 1
         print(f"{name}: the link {link} leads nowhere")
     with tempfile.TemporaryDirectory() as room:
-        for folder in ("meshes", "tools", "docs"):
-            shutil.copytree(TOP / folder, f"{room}/{folder}")
+        for folder in ("meshes", "tools", "docs", "web"):
+            shutil.copytree(TOP / folder, f"{room}/{folder}", ignore=shutil.ignore_patterns("out"))
         places = f"{program.parent}{os.pathsep}{os.environ['PATH']}" if program else ""
         for block in blocks(text):
             if block.fault():

@@ -64,6 +64,7 @@ CHECKS = [
     Check("blender/check.py", MEMORY),
     Check("tools/test_tools.py"),
     Check("tools/test_meshfiles.py"),
+    Check("tools/test_viewfiles.py"),
     Check("tools/test_reach.py"),
     Check("tools/test_checks.py"),
     Check("tools/wrong_bodies.py --check"),

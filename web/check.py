@@ -1,10 +1,11 @@
 #!/usr/bin/env python3
-"""Tries the page and what it stands on: the modules in JavaScript and in C, surf.wasm, and surf.html in a browser.
+"""Tries the page and what it stands on: the modules in JavaScript and in C, surf.wasm, and surf.html in a browser; and
+files that show an answer, in a browser.
 
     check.py                            builds both by build.py, where its tools are here
     check.py --built FOLDER             takes surf.wasm and surf.html in this folder
     check.py --program PATH             the program to compare with, crates/surf/out/surf without it
-    check.py --pictures FOLDER          also writes pictures of the page
+    check.py --pictures FOLDER          also writes pictures of the page, and of files that show an answer
 
 Each part is passed over with a word where what it needs isn't here: a compiler of C, node, `rt` and `wasm-opt`, the
 program, Chromium, WebKit with its driver. None of these belongs to the set-up but rt.
@@ -254,6 +255,8 @@ def files_shown(given) -> int:
             room = given.room / f"files-{name}"
             room.mkdir()
             wrong += tried(room)
+            if name == "Chromium" and given.pictures and given.program.is_file():
+                shown.pictures_of(given.program, room, given.pictures)
         else:
             print(f"web: files that show an answer aren't tried in {name}, since that isn't here")
     return wrong

@@ -9,6 +9,7 @@ import base64
 import itertools
 import math
 import pathlib
+import subprocess
 import sys
 import zlib
 
@@ -265,6 +266,29 @@ def tried(page, room: pathlib.Path, checks: Checks):
         picture = Picture(page, room, mark)
         for part in (each_kind, cut_and_values, used, chosen, hostile):
             part(picture, checks)
+
+
+def pictures_of(program: pathlib.Path, room: pathlib.Path, folder: pathlib.Path):
+    """Pictures of files that tools/show.py makes of the program's answers on eight.off."""
+    eight = TOP / "meshes/eight.off"
+
+    def answer(name: str, *words) -> pathlib.Path:
+        path = room / name
+        path.write_bytes(subprocess.run([program, *map(str, words)], check=True, capture_output=True).stdout)
+        return path
+
+    lengths, page = answer("eight.len", "lengths", eight, 6), chrome.Chrome(1000, 600)
+    try:
+        for name, words in {"python": ("basis", ), "python-cut": ("cut", 353, "trim")}.items():
+            found, path = answer(name, words[0], eight, lengths, *words[1:]), room / f"{name}.html"
+            how = ["--html", path, "--decimals", "6"]
+            subprocess.run([sys.executable, TOP / "tools/show.py", eight, found, *how], check=True)
+            page.go(f"file://{path}")
+            page.until(READY)
+            page.js("new Promise(done => setTimeout(() => requestAnimationFrame(() => requestAnimationFrame(done)), 500))")
+            (folder / f"{name}.png").write_bytes(page.picture())
+    finally:
+        page.close()
 
 
 def tried_in_chromium(room: pathlib.Path) -> int:
