@@ -67,6 +67,7 @@ CHECKS = [
     Check("tools/test_viewfiles.py"),
     Check("tools/test_reach.py"),
     Check("tools/test_checks.py"),
+    Check("bench/test_bench.py"),
     Check("tools/wrong_bodies.py --check"),
     Check("tools/crate_graph.py --check"),
     Check("tools/check_documents.py"),
