@@ -35,9 +35,10 @@ PEERS = Path(__file__).resolve().parent / "peers"
 
 # Meshes in series: a program that is late on one gets no later one of its series.
 TORI = [f"torus {n} {n}" for n in (20, 30, 45, 70, 141, 316)]
-HANDLES = [f"handles 140 142 {h}" for h in (1, 4, 16, 64, 256, 500)]
+HANDLES = [f"handles 140 142 {h}" for h in (1, 4, 16, 64, 256)]
 SERIES = {"tori": TORI, "handles": HANDLES}
-MOST_BASIS_VERTICES = 20_000
+# A basis of more vertices wants the word `large`.
+MOST_PLAIN_VERTICES = 20_000
 
 
 @dataclass
@@ -54,7 +55,7 @@ class Peer:
 
 @dataclass
 class Row:
-    """What a program did on a mesh. Seconds and megabytes are empty where it was late or refused the mesh."""
+    """What a program did on a mesh. Seconds are `late` where it took too long, and empty where it refused the mesh."""
 
     job: str
     series: str
@@ -175,7 +176,7 @@ def rows_of(job: str, series: str, programs: dict[str, list[str]], files: hard.F
             names = files.names(mesh, "" if weights == hard.UNIT else weights, None) | rows_as_walks(mesh, files.work)
             vertices, rank = sizes_of(names["M"][0])
             running = {name: words for name, words in programs.items() if (name, weights) not in late}
-            if job == "basis" and vertices > MOST_BASIS_VERTICES:
+            if job == "basis" and vertices > MOST_PLAIN_VERTICES and "large" not in running.get("surf", []):
                 running.pop("surf", None)
             filled = [[part for word in words for part in names.get(word, [word])] for words in running.values()]
             runners = [speed.Runner(words, files.work / f"answer{place}") for place, words in enumerate(filled)]
@@ -219,7 +220,8 @@ def main() -> None:
         speed.print_head(HEAD)
         files = hard.Files(surf, work, options)
         for job in options.jobs or OURS:
-            programs = {"surf": [str(surf), *OURS[job].split()]}
+            large = ["large"] if job == "basis" and hard.knows_large(files) else []
+            programs = {"surf": [str(surf), *OURS[job].split(), *large]}
             programs |= {peer.name: peer.words for peer in found if peer.job == job}
             for series in ("tori",) if job == "same" else SERIES:
                 for rows in rows_of(job, series, programs, files, options):
