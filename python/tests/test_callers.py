@@ -132,6 +132,56 @@ class Using(unittest.TestCase):
             self.assertLess(time.monotonic() - began, 30)
         self.assertTrue(issubclass(surfbasis.TimedOut, TimeoutError))
 
+    def test_time_limit_of_a_question(self):
+        surface = surfbasis.Surface(*read("tet"), lengths="unit")
+        questions = [surface.basis, surface.cycle, lambda **words: surface.shortest([0, 1, 2], **words)]
+        with tempfile.TemporaryDirectory() as folder:
+            surfbasis.use(surfbasis.Program(script(folder, "exec sleep 60"), seconds=60))
+            began = time.monotonic()
+            for question in questions:
+                with self.assertRaises(surfbasis.TimedOut):
+                    question(seconds=0.2)
+                for seconds in (0, -1, float("nan")):
+                    with self.assertRaises(ValueError):
+                        question(seconds=seconds)
+            self.assertLess(time.monotonic() - began, 30)
+
+    def test_the_answer_within_a_time_limit(self):
+        surface = surfbasis.Surface(*read("eight"), decimals=6)
+        cycle = surface.cycle(seconds=300)
+        self.assertEqual(walks_of(surface.basis(seconds=300)), walks_of(surface.basis()))
+        self.assertEqual(walks_of([cycle, surface.shortest(cycle, seconds=300)]), walks_of([surface.cycle()] * 2))
+        with self.assertRaises(surfbasis.SurfaceRefused):
+            surfbasis.Surface(surface.vertices, surface.faces[1:]).basis(seconds=300)
+
+    def test_the_shorter_limit_holds(self):
+        program = surfbasis.Program(PROGRAM, seconds=7)
+        self.assertEqual([program.within(seconds).seconds for seconds in (3, 9)], [3, 7])
+        apart = _callers.LibraryApart("libsurf.so", 7)
+        self.assertEqual([apart.within(seconds).seconds for seconds in (3, 9)], [3, 7])
+
+    @HAS_LIBRARY
+    def test_the_library_apart_says_the_same(self):
+        library = surfbasis.Library(LIBRARY)
+        for words, files in CALLS:
+            self.assertEqual(library(words, files, 0), library.within(300)(words, files, 0))
+        mesh = off_text(*read("torus33")).encode()
+        with mock.patch.object(_callers, "LEAST_ROOM", 16):
+            small = library.within(300)("cut 1 unit 0 full", [mesh], 0)
+        self.assertEqual(small, library("cut 1 unit 0 full", [mesh], 1 << 20))
+
+    def test_the_library_apart_is_ended(self):
+        apart = _callers.LibraryApart("/nowhere/libsurf.so", 0.2)
+        with tempfile.TemporaryDirectory() as folder:
+            with mock.patch("sys.executable", str(script(folder, "exec sleep 60"))):
+                began = time.monotonic()
+                self.assertRaises(surfbasis.TimedOut, apart, "info 1", [TETRAHEDRON], 0)
+                self.assertLess(time.monotonic() - began, 30)
+        with self.assertRaisesRegex(surfbasis.Ended, "nowhere/libsurf.so"):
+            _callers.LibraryApart("/nowhere/libsurf.so", 300)("info 1", [TETRAHEDRON], 0)
+        with mock.patch("sys.executable", ""), self.assertRaisesRegex(RuntimeError, "sys.executable"):
+            apart("info 1", [TETRAHEDRON], 0)
+
     def test_ctrl_c(self):
         # what is started in the background may have been told to ignore it
         self.addCleanup(signal.signal, signal.SIGINT, signal.signal(signal.SIGINT, signal.default_int_handler))

@@ -3,16 +3,17 @@ program."""
 
 from __future__ import annotations
 
-import ctypes
 import os
 import pathlib
 import subprocess
+import sys
 import tempfile
-from typing import Optional, Protocol, Sequence, Tuple, Union
+from typing import List, Optional, Protocol, Sequence, Tuple, Union
 
 import numpy as np
 import numpy.typing as npt
 
+from . import _apart
 from ._library import own_library
 
 Path = Union[str, "os.PathLike[str]"]
@@ -23,11 +24,11 @@ FAULT = 255  # no status of surf: a library that was made of C says so where the
 
 
 class TimedOut(TimeoutError):
-    """The program took longer than the seconds that `Program` was given, and was ended."""
+    """A call took longer than its seconds, and was ended."""
 
 
 class Ended(RuntimeError):
-    """The program was ended by a signal before it answered, or the library gave a call up by a fault, which it does only
+    """The process that was asked ended before it answered, or the library gave a call up by a fault, which it does only
     where it was translated or compiled wrongly."""
 
 
@@ -38,38 +39,43 @@ class Caller(Protocol):
     def __call__(self, words: str, files: Sequence[bytes], room: int) -> Tuple[int, bytes]:
         """The status, and the answer where that is 0 or 1, else the line."""
 
-
-class _Said(ctypes.Structure):
-    _fields_ = [("size", ctypes.c_size_t), ("status", ctypes.c_uint8)]
+    def within(self, seconds: float) -> Caller:
+        """The same, but for a call that takes longer than so many seconds, which is ended by TimedOut."""
 
 
 class Library:
     """Calls the shared library, in this process.
 
     The interpreter's lock is let go during a call, so that threads run side by side. A call can't be broken off:
-    Ctrl-C waits for its end. Raises OSError where the file can't be loaded."""
+    Ctrl-C waits for its end; one with a time limit is made in a process of its own. Raises OSError where the file
+    can't be loaded."""
 
     def __init__(self, path: Path):
         self.path = os.path.abspath(os.fspath(path))
-        self._call = ctypes.CDLL(self.path).surf_call
-        self._call.restype = _Said
-        self._call.argtypes = [ctypes.c_char_p, ctypes.c_size_t] * 4 + [ctypes.c_void_p, ctypes.c_size_t]
+        self._call = _apart.surf_call(self.path)
 
     def __repr__(self) -> str:
         return f"Library({self.path!r})"
 
     def __call__(self, words: str, files: Sequence[bytes], room: int) -> Tuple[int, bytes]:
-        slices = [words.encode(), *files, b"", b"", b""][:4]
-        pairs = [part for piece in slices for part in (piece, len(piece))]
+        given = _apart.arguments(words, files)
         space = _space(room)
         while True:
-            said = self._call(*pairs, space.ctypes.data, len(space))
+            said = self._call(*given, space.ctypes.data, len(space))
             if said.size <= len(space):
-                text = space[: said.size].tobytes()
-                if said.status == FAULT:
-                    raise Ended(text.decode().strip())
-                return said.status, text
+                return _without_fault(said.status, space[: said.size].tobytes())
             space = np.empty(said.size, np.uint8)  # the whole work is done once more
+
+    def within(self, seconds: float) -> Caller:
+        """The same library, in a process for each call, which ends after so many seconds."""
+        return LibraryApart(self.path, seconds)
+
+
+def _without_fault(status: int, text: bytes) -> Tuple[int, bytes]:
+    """What a library said, unless it gave the call up by a fault."""
+    if status == FAULT:
+        raise Ended(text.decode().strip())
+    return status, text
 
 
 def _space(room: int) -> npt.NDArray[np.uint8]:
@@ -104,26 +110,53 @@ class Program:
         return f"Program({self.path!r}, seconds={self.seconds})"
 
     def __call__(self, words: str, files: Sequence[bytes], room: int) -> Tuple[int, bytes]:
-        with tempfile.TemporaryDirectory(prefix="surfbasis") as folder:
-            for name, text in zip("123", files):
-                pathlib.Path(folder, name).write_bytes(text)
-            status, out, diag = self._run(words, folder)
+        status, out, diag = _ran([self.path, *words.split()], files, self.seconds)
         if status < 0:
             raise Ended(f"{self.path} was ended by signal {-status}")
         return status, out if status < 2 else diag
 
-    def _run(self, words: str, folder: str) -> Tuple[int, bytes, bytes]:
-        none, pipe = subprocess.DEVNULL, subprocess.PIPE
-        command = [self.path, *words.split()]
+    def within(self, seconds: float) -> Caller:
+        """The same program, with the shorter of two limits."""
+        return Program(self.path, seconds if self.seconds is None else min(seconds, self.seconds))
+
+
+class LibraryApart:
+    """Calls a library in a process of this interpreter (`sys.executable`) for each call, over files in a folder for
+    temporary files. A call that takes longer than so many seconds is ended by TimedOut."""
+
+    def __init__(self, path: str, seconds: float):
+        self.path, self.seconds = path, seconds
+
+    def __call__(self, words: str, files: Sequence[bytes], room: int) -> Tuple[int, bytes]:
+        if not sys.executable:
+            raise RuntimeError("a time limit needs an interpreter to start, and sys.executable names none")
+        size = str(min(max(room, LEAST_ROOM), GREATEST_ROOM))
+        command = [sys.executable, "-I", _apart.__file__, self.path, size, *words.split()]
+        status, out, diag = _ran(command, files, self.seconds)
+        if status:
+            raise Ended(f"the process for {self.path} ended with {status}: {diag.decode(errors='replace')}")
+        return _without_fault(out[0], out[1:])
+
+    def within(self, seconds: float) -> Caller:
+        """The same library, with the shorter of two limits."""
+        return LibraryApart(self.path, min(seconds, self.seconds))
+
+
+def _ran(command: List[str], files: Sequence[bytes], seconds: Optional[float]) -> Tuple[int, bytes, bytes]:
+    """The status of a process and what it wrote. It finds the files as 1, 2 and 3, and is ended after the seconds."""
+    none, pipe = subprocess.DEVNULL, subprocess.PIPE
+    with tempfile.TemporaryDirectory(prefix="surfbasis") as folder:
+        for name, text in zip("123", files):
+            pathlib.Path(folder, name).write_bytes(text)
         with subprocess.Popen(command, cwd=folder, stdin=none, stdout=pipe, stderr=pipe) as process:
             try:
-                out, diag = process.communicate(timeout=self.seconds)
+                out, diag = process.communicate(timeout=seconds)
             except subprocess.TimeoutExpired:
-                raise TimedOut(f"`{words}` took longer than {self.seconds} seconds") from None
+                raise TimedOut(f"a call of surf took longer than {seconds} seconds") from None
             finally:
                 process.kill()  # where the limit or Ctrl-C broke it off; else it has ended
                 process.wait()
-        return process.returncode, out, diag
+    return process.returncode, out, diag
 
 
 def default_caller() -> Caller:
@@ -142,12 +175,16 @@ def default_caller() -> Caller:
 _used: Optional[Caller] = None
 
 
-def caller() -> Caller:
-    """What asks surf now."""
+def caller(seconds: Optional[float] = None) -> Caller:
+    """What asks surf now, with a time limit where there is one. ValueError where that isn't above 0."""
     global _used
     if _used is None:
         _used = default_caller()
-    return _used
+    if seconds is None:
+        return _used
+    if not seconds > 0:
+        raise ValueError(f"a time limit is above 0 seconds, and not {seconds}")
+    return _used.within(seconds)
 
 
 def use(new: Optional[Caller]) -> Optional[Caller]:

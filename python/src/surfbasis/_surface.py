@@ -389,17 +389,19 @@ class Surface:
     def _rooms(self) -> Rooms:
         return Rooms(self._count, len(self._faces), len(self._faces.corners))
 
-    def _ask(self, words: str, files: Sequence[bytes], room: int) -> bytes:
-        status, text = caller()(words, files, room)
+    def _ask(self, words: str, files: Sequence[bytes], room: int, seconds: Optional[float] = None) -> bytes:
+        status, text = caller(seconds)(words, files, room)
         if status > 1:
             raise refusal(status, text.decode("utf-8", "replace"), self._count)
         return text
 
-    def _ask_lengths(self, words: str, room: int, more: Sequence[bytes] = ()) -> bytes:
+    def _ask_lengths(
+        self, words: str, room: int, more: Sequence[bytes] = (), seconds: Optional[float] = None
+    ) -> bytes:
         """Asks with `M`, `L` and `N` in the words for the mesh, the lengths and the next file."""
         length, files = self._measured_files()
         words = words.replace("M", "1").replace("L", length).replace("N", str(len(files) + 1))
-        return self._ask(words, [*files, *more], room)
+        return self._ask(words, [*files, *more], room, seconds)
 
     def _base(self, base: Any) -> int:
         """A base in digits, as surf reads it. A vertex of a hub is none."""
@@ -465,24 +467,28 @@ class Surface:
         """
         return self._walks(self._ask_lengths(f"loops M L {self._base(base)}", self._rooms().walks()))
 
-    def basis(self) -> Walks:
+    def basis(self, *, seconds: Optional[float] = None) -> Walks:
         """A shortest homology basis (mod 2): 2 - characteristic independent cycles, wherever they run, with the least
         total length; the shortest first. Where many vertices have loops of nearly one length, a large mesh may take
         minutes.
+
+        seconds: how long the search may take, which then runs in a process of its own; TimedOut after that. None is
+                 as long as it takes
 
         >>> basis = Surface.from_file("meshes/eight.off", decimals=6).basis()
         >>> basis.units, len(basis), basis[0].vertices.tolist()
         (12262957, 4, [68, 73, 75, 76, 78, 155, 154, 149, 148, 70])
         """
-        return self._walks(self._ask_lengths("basis M L large", self._rooms().walks()))
+        return self._walks(self._ask_lengths("basis M L large", self._rooms().walks(), seconds=seconds))
 
-    def cycle(self) -> Optional[Walk]:
-        """A shortest cycle that doesn't separate the surface; None on a sphere, where every cycle does.
+    def cycle(self, *, seconds: Optional[float] = None) -> Optional[Walk]:
+        """A shortest cycle that doesn't separate the surface; None on a sphere, where every cycle does. The seconds
+        are as those of `basis`.
 
         >>> Surface.from_file("meshes/eight.off", decimals=6).cycle().length
         1.854371
         """
-        row = self._ask_lengths("cycle M L large", self._rooms().walk()).split()
+        row = self._ask_lengths("cycle M L large", self._rooms().walk(), seconds=seconds).split()
         return None if row == [b"none"] else self._walk(row)
 
     def distances(self, base: int = 0) -> Distances:
@@ -578,15 +584,16 @@ class Surface:
         text = evidence.text if isinstance(evidence, Evidence) else _bytes(evidence)
         return _verdict(self._ask("confirm 1 2 3", [self._mesh(), _walk_line(walk), text], self._rooms().line()))
 
-    def shortest(self, walk: Any) -> Walk:
+    def shortest(self, walk: Any, *, seconds: Optional[float] = None) -> Walk:
         """A shortest closed walk homologous (mod 2) to a closed walk. Takes up to 16 for 2 - characteristic, and up to
-        16,777,216 vertices times 2**(2 - characteristic) (LimitRefused).
+        16,777,216 vertices times 2**(2 - characteristic) (LimitRefused). The seconds are as those of `basis`.
 
         >>> surface = Surface.from_file("meshes/torus33.off", lengths="unit")
         >>> surface.shortest([0, 1, 2, 0, 3, 6]).vertices
         array([0, 8, 4])
         """
-        return self._walk(self._ask_lengths("shortest M L N large", self._rooms().lift(), [_walk_line(walk)]).split())
+        room, more = self._rooms().lift(), [_walk_line(walk)]
+        return self._walk(self._ask_lengths("shortest M L N large", room, more, seconds).split())
 
     @classmethod
     def sew(cls, cut: Cut, *, lengths: Any = None, decimals: Optional[int] = None) -> Surface:
