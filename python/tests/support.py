@@ -25,7 +25,18 @@ CLOSED = (*MEASURED, "torus33", "torus7", "plane6", "pillow")
 
 def read(name):
     """The vertices and the faces of a mesh of triangles of the repository."""
-    rows = [line.split() for line in (MESHES / f"{name}.off").read_text().splitlines()]
+    return arrays_of((MESHES / f"{name}.off").read_text())
+
+
+def chain(tori, rows, columns):
+    """The vertices and the faces of a chain of tori, as `gen` makes it."""
+    words = [PROGRAM, "gen", "chain", str(tori), str(rows), str(columns)]
+    return arrays_of(subprocess.run(words, capture_output=True, text=True, check=True).stdout)
+
+
+def arrays_of(text):
+    """The vertices and the faces of a plain OFF text of triangles."""
+    rows = [line.split() for line in text.splitlines()]
     vertices, faces = int(rows[1][0]), int(rows[1][1])
     body = rows[2 : 2 + vertices + faces]
     return np.array([row[:3] for row in body[:vertices]], float), np.array([row[1:4] for row in body[vertices:]], int)

@@ -6,7 +6,7 @@ import unittest
 
 import numpy as np
 import surfbasis
-from support import CORNERS, CUBE, Asked, off_text, read
+from support import CORNERS, CUBE, Asked, chain, off_text, read
 from surfbasis._advice import _entries
 from surfbasis._refusals import KINDS, refusal
 
@@ -138,7 +138,9 @@ class Witnesses(unittest.TestCase):
         self.assertEqual(self.refused(surfbasis.LimitRefused, many.info).limit, "vertices")
         three = surfbasis.Surface(*read("three"), lengths="unit")
         self.assertEqual(self.refused(surfbasis.LimitRefused, three.certify).limit, "certificate-vertices")
-        self.assertEqual(self.refused(surfbasis.LimitRefused, three.shortest, [0]).limit, "cover-nodes")
+        for tori, columns, limit in ((9, 4, "cover-loops"), (8, 9, "cover-nodes")):
+            many = surfbasis.Surface(*chain(tori, 4, columns), lengths="unit")
+            self.assertEqual(self.refused(surfbasis.LimitRefused, many.shortest, [0]).limit, limit)
 
     def test_bases_and_walks(self):
         surface = surfbasis.Surface(*read("tet"))
