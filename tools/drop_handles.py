@@ -6,9 +6,9 @@
 
 While a shortest nonseparating cycle is shorter than X, the surface is cut along it, and each border is closed by one
 face. `surf` finds the cycles, and says at the end that none shorter is left. Vertices on a cut get a copy that stands a
-hair apart, so that a program which merges equal points doesn't close the cut again. Edges are measured on the mesh as
-it is written. With a length file, or with --triangles, old edges keep their lengths, and those of the triangles are
-so long that no walk takes a short cut over them: --new-lengths writes all. What was done is told on standard error.
+hair apart, so that a program which merges equal points doesn't close the cut again. Old edges keep the lengths that
+they had before the first cut, and the edges of triangles are so long that no walk takes a short cut over them:
+--new-lengths writes all. What was done is told on standard error.
 """
 
 import argparse

@@ -5,7 +5,7 @@
     pathlib.Path("scan.off").write_bytes(mended.off_text())
 
 Standard library alone. Where numpy can be imported it does the work on whole tables, tables are arrays and not
-lists, and 100,000 vertices take about a second; the surfaces are the same.
+lists, and 100,000 vertices take about a second; the surfaces are the same. `handles` takes small handles off a surface.
 """
 
 from .files import read_bytes, read_mesh
