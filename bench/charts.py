@@ -16,9 +16,10 @@ from html import escape
 from pathlib import Path
 
 WIDTH, HEIGHT = 330, 270
-LEFT, RIGHT, TOP, BOTTOM = 52, 14, 30, 44
+LEFT, RIGHT, TOP, BOTTOM = 52, 28, 30, 44
 COLOURS = {
     "surf": "#1f5fa8",
+    "plain": "#6aa0d8",
     "sketch": "#6aa0d8",
     "CGAL": "#c0392b",
     "PHAT": "#2e8b57",
@@ -26,6 +27,9 @@ COLOURS = {
     "Gmsh": "#d68910",
 }
 TITLES = {
+    "info": "Is it a surface?",
+    "dist": "Shortest ways from a vertex",
+    "cut": "A disc",
     "cycle": "A shortest cycle",
     "loop": "A shortest loop at a vertex",
     "loops": "All shortest loops at a vertex",
@@ -99,7 +103,7 @@ def panel(lines: dict[str, list[Point]], title: str, below: str) -> str:
     for place, (name, points) in enumerate(lines.items()):
         colour = COLOURS.get(name, "#555555")
         parts += line(points, x, y, colour)
-        parts.append(text(LEFT + 8, TOP + 14 + 14 * place, name, f'fill="{colour}" class="name"'))
+        parts.append(text(LEFT + 8, TOP + 14 + 14 * place, name, f'style="fill:{colour}" class="name"'))
     return "\n".join(parts)
 
 

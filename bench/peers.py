@@ -7,11 +7,12 @@ Peers are what Debian has: CGAL (`libcgal-dev`), Gmsh (`python3-gmsh`), PHAT (`l
 libigl has no package there. The programs in `bench/peers` call them; those in C++ are built by g++ into
 `bench/peers/built`. A peer that isn't installed is passed over with a word. The jobs, with what a peer answers:
 
+    info, dist, cut    none; `bench/plain` gives the same bytes, and the answer in the table is how many
     cycle    CGAL: a shortest cycle that can't be contracted; it may separate where there are several handles
     loop     CGAL: a shortest loop at vertex 0 that can't be contracted; beside the first loop of `surf loops`
     same     CGAL: whether two walks are freely homotopic; `surf same`: whether they are homologous (mod 2)
     loops    PHAT, GUDHI: how many loops at vertex 0 a shortest system has, and their total, without any walk
-    basis    Gmsh: a homology basis, with integers, not shortest; the plain program's sketch: the same as surf
+    basis    Gmsh: a homology basis, with integers, not shortest; the sketch of `bench/plain`: the same as surf
 
 Each row has what a peer took and answered, and beside it the same of `surf`: seconds of one processor (user and system,
 the least of the repeats in turn), megabytes, how many loops the answer has and their total length; of `same` the walks
@@ -20,6 +21,7 @@ are two parallel rows of a torus. A program that took more than the limit gets n
 """
 import argparse
 import csv
+import filecmp
 import shutil
 import subprocess
 import sys
@@ -37,6 +39,19 @@ PEERS = Path(__file__).resolve().parent / "peers"
 TORI = [f"torus {n} {n}" for n in (20, 30, 45, 70, 141, 316)]
 HANDLES = [f"handles 140 142 {h}" for h in (1, 4, 16, 64, 256)]
 SERIES = {"tori": TORI, "handles": HANDLES}
+# The jobs with the words of surf: M and L are a mesh and its lengths, C and D two walks. BYTES are those whose answers
+# are compared by their bytes.
+OURS = {
+    "info": "info M",
+    "dist": "dist M L 0",
+    "cut": "cut M L 0 trim",
+    "cycle": "cycle M L",
+    "loop": "loops M L 0",
+    "same": "same M C D",
+    "loops": "loops M L 0",
+    "basis": "basis M L",
+}
+BYTES = ["info", "dist", "cut"]
 # A basis of more vertices wants the word `large`.
 MOST_PLAIN_VERTICES = 20_000
 
@@ -128,17 +143,19 @@ def peers() -> list[Peer]:
         found.append(Peer("Gmsh", "basis", "computeHomology", version_of("python3-gmsh"), words))
     print("libigl has no package in Debian: passed over", file=sys.stderr)
     if shutil.which("cargo"):
-        found.append(Peer("sketch", "basis", "", "", [str(speed.plain_built()), "--sketch", "basis", "M", "L"]))
+        plain = str(speed.plain_built())
+        found += [Peer("plain", job, "", "", [plain, *OURS[job].split()]) for job in BYTES]
+        found.append(Peer("sketch", "basis", "", "", [plain, "--sketch", *OURS["basis"].split()]))
     return found
 
 
-OURS = {"cycle": "cycle M L", "loop": "loops M L 0", "same": "same M C D", "loops": "loops M L 0", "basis": "basis M L"}
-
-
 def loops_and_total(job: str, runner: speed.Runner) -> tuple[str, str]:
-    """How many loops an answer has, and their total length; of `loop` the first one alone. `same` has its word."""
+    """How many loops an answer has, and their total length; of `loop` the first one alone. `same` has its word, and
+    an answer without loops its bytes."""
     if runner.is_late or runner.is_refused:
         return "", ""
+    if job in BYTES:
+        return "", f"{runner.answer.stat().st_size} bytes"
     lines = [line.split() for line in runner.answer.read_text().splitlines()]
     if job == "same":
         return "", lines[0][0]
@@ -154,6 +171,16 @@ def sizes_of(path: str) -> tuple[int, int]:
         next(text)
         vertices, faces = map(int, next(text).split()[:2])
     return vertices, 2 - vertices + faces // 2
+
+
+def told(job: str, name: str, runners: dict[str, speed.Runner]) -> tuple[str, str]:
+    """What a program answered. Bytes of `bench/plain` that aren't those of surf are told."""
+    loops, total = loops_and_total(job, runners[name])
+    both = [runners[one] for one in ("surf", name) if one in runners]
+    is_compared = name in ("plain", "sketch") and len(both) == 2
+    if is_compared and not any(runner.is_late or runner.is_refused for runner in both):
+        total += "" if filecmp.cmp(*(runner.answer for runner in both), shallow=False) else " DIFFERS"
+    return loops, total
 
 
 def rows_as_walks(mesh: str, work: Path) -> dict[str, list[str]]:
@@ -172,21 +199,24 @@ def rows_of(job: str, series: str, programs: dict[str, list[str]], files: hard.F
     """The rows of a job on each mesh of a series, for equal and for scattered lengths."""
     late: set[tuple[str, str]] = set()
     for mesh in SERIES[series]:
-        for weights in (hard.UNIT,) if job == "same" else (hard.UNIT, hard.SCATTERED):
+        for weights in (hard.UNIT,) if job in ("info", "same") else (hard.UNIT, hard.SCATTERED):
             names = files.names(mesh, "" if weights == hard.UNIT else weights, None) | rows_as_walks(mesh, files.work)
             vertices, rank = sizes_of(names["M"][0])
             running = {name: words for name, words in programs.items() if (name, weights) not in late}
             if job == "basis" and vertices > MOST_PLAIN_VERTICES and "large" not in running.get("surf", []):
                 running.pop("surf", None)
             filled = [[part for word in words for part in names.get(word, [word])] for words in running.values()]
-            runners = [speed.Runner(words, files.work / f"answer{place}") for place, words in enumerate(filled)]
+            runners = {
+                name: speed.Runner(words, files.work / f"answer{place}")
+                for place, (name, words) in enumerate(zip(running, filled))
+            }
             for _ in range(options.repeat):
-                for runner in runners:
+                for runner in runners.values():
                     runner.turn([], options.limit)
-            late |= {(name, weights) for name, runner in zip(running, runners) if runner.is_late}
+            late |= {(name, weights) for name, runner in runners.items() if runner.is_late}
             yield [
-                Row(job, series, mesh, vertices, rank, weights, name, *runner.figures(), *loops_and_total(job, runner))
-                for name, runner in zip(running, runners)
+                Row(job, series, mesh, vertices, rank, weights, name, *runner.figures(), *told(job, name, runners))
+                for name, runner in runners.items()
             ]
 
 
@@ -223,7 +253,7 @@ def main() -> None:
             large = ["large"] if job == "basis" and hard.knows_large(files) else []
             programs = {"surf": [str(surf), *OURS[job].split(), *large]}
             programs |= {peer.name: peer.words for peer in found if peer.job == job}
-            for series in ("tori",) if job == "same" else SERIES:
+            for series in ("tori",) if job in ("same", *BYTES) else SERIES:
                 for rows in rows_of(job, series, programs, files, options):
                     print_beside(rows)
                     saved += rows

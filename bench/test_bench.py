@@ -77,6 +77,7 @@ class Answers(unittest.TestCase):
         self.assertEqual(self.told("loop", "loops 2\ntotal 7\nloop 3 0 1 2 0\nloop 4 0 3 4 5 0\n"), ("1", "3"))
         self.assertEqual(self.told("cycle", "cycle 3 0 1 2 0\n"), ("1", "3"))
         self.assertEqual(self.told("same", "same 2 0 1\n"), ("", "same"))
+        self.assertEqual(self.told("info", "vertices 4\n"), ("", "11 bytes"))
 
     def test_rank_of_a_triangle_mesh(self) -> None:
         with tempfile.TemporaryDirectory() as folder:
