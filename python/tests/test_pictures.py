@@ -162,6 +162,8 @@ class Commands(unittest.TestCase):
         self.assertEqual((status, diag), (0, ""))
         self.assertEqual((out.splitlines()[0].split()[:2], out.splitlines()[-1]), (["4", "cycles,"], "eight.png"))
         self.assertTrue(pathlib.Path(ROOM.name, "eight.png").read_bytes().startswith(b"\x89PNG"))
+        self.assertEqual(self.ran("-m", "surfbasis", MESHES / "ring.off", "ring.html")[0], 0)
+        self.assertTrue(pathlib.Path(ROOM.name, "ring.html").read_text().startswith("<!doctype html>"))
         status, out, diag = self.ran("-m", "surfbasis", MESHES / "ring.off", "loops.png", "--base", "3")
         self.assertEqual((status, out.splitlines()[0].split()[:2]), (0, ["2", "loops,"]))
 

@@ -1,4 +1,4 @@
-"""Draws a shortest homology basis of a mesh file: python -m surfbasis MESH [PICTURE.png]."""
+"""Draws a shortest homology basis of a mesh file: python -m surfbasis MESH [PICTURE.png or PAGE.html]."""
 
 from __future__ import annotations
 
@@ -14,7 +14,7 @@ def main(words: Optional[List[str]] = None) -> int:
     """Prints the lengths and draws the picture; the status is surf's, or 1 where the file can't be read."""
     parser = argparse.ArgumentParser(prog="python -m surfbasis", description=__doc__.partition(":")[0] + ".")
     parser.add_argument("mesh", help="an OFF, OBJ, PLY or STL file, also with .gz behind")
-    parser.add_argument("picture", nargs="?", help="where the picture goes; MESH.png in this folder if none is named")
+    parser.add_argument("picture", nargs="?", help="where the picture goes, or a page (.html); MESH.png in this folder")
     parser.add_argument("--close", action="store_true", help="close each hole by one face")
     parser.add_argument("--hub", action="store_true", help="join all holes, so that loops round them count")
     parser.add_argument("--tolerance", type=float, default=0.0, help="merge points of open edges nearer than this")
