@@ -3,13 +3,13 @@ import { $, save, unpacked } from './dom.js';
 import { cutAlong } from './opened.js';
 import { readScene } from './scene.js';
 import { shapeOf } from './shape.js';
-import { unfold } from './unfold.js';
+import { MOST_UNFOLDED, unfolding } from './unfold.js';
 import { plural, shownLength } from './units.js';
 import { Viewer } from './viewer.js';
 import { walkOf } from './walks.js';
 
-/** The greatest disc that is laid in the plane: a greater one takes too long where the picture waits for it. */
-const MOST_UNFOLDED = 50000;
+/** For so many milliseconds the disc is laid in the plane before the picture may be turned in between. */
+const AT_ONCE = 20;
 
 /** The mesh without its hidden faces, and of each face that is left the number that it had. */
 function seenPart({ starts, corners, ...mesh }, hidden) {
@@ -77,9 +77,24 @@ function show(scene, viewer) {
   $('said').textContent = words;
 }
 
-function showUnfolded({ mesh, lines }, viewer) {
-  const opened = cutAlong(mesh, lines[0].vertices);
-  if (opened.disc.points.length / 3 <= MOST_UNFOLDED) viewer.showDisc({ ...unfold(opened), round: opened.round });
+/** Takes all steps of a generator, with pauses in which the user can turn the picture; answers what it comes to. */
+async function finished(steps) {
+  for (let since = performance.now(); ;) {
+    const { done, value } = steps.next();
+    if (done) return value;
+    if (performance.now() - since > AT_ONCE) {
+      await new Promise((go) => setTimeout(go));
+      since = performance.now();
+    }
+  }
+}
+
+/** Lays the disc of a cut in the plane. */
+async function showUnfolded(scene, viewer) {
+  const opened = cutAlong(scene.mesh, scene.lines[0].vertices);
+  if (opened.disc.points.length / 3 <= MOST_UNFOLDED) {
+    viewer.showDisc({ ...(await finished(unfolding(opened))), round: opened.round });
+  } else $('said').textContent = `${wordsOf(scene)}. It has too many vertices to be laid in the plane`;
 }
 
 /** Unpacks the scene and shows it. In the address `#plain` leaves WebGL aside. */

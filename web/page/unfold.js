@@ -3,6 +3,9 @@
 import { trianglesOf } from './shape.js';
 import { matesOf } from './mend.js';
 
+/** The greatest disc that is laid in the plane: beyond it that takes minutes. */
+export const MOST_UNFOLDED = 150000;
+
 /** The border on the circle of radius 1: the side from one vertex to the next takes as much as it is long. */
 function circle(points, round, places) {
   const far = (u, v) => Math.hypot(...[0, 1, 2].map((c) => points[3 * u + c] - points[3 * v + c]));
@@ -30,8 +33,8 @@ function neighbours(count, edges) {
   return { starts, list };
 }
 
-/** One coordinate of the inner vertices by conjugate gradients, to a thousandth of a unit in all. */
-function settle({ starts, list }, fixed, places, at) {
+/** One coordinate of the inner vertices by conjugate gradients, to a thousandth of a unit in all; a turn at a time. */
+function* settle({ starts, list }, fixed, places, at) {
   const count = fixed.length, [rest, way, image] = [0, 1, 2].map(() => new Float64Array(count));
   const apply = (from, to, stride, offset) => {
     for (let v = 0; v < count; v++) {
@@ -55,18 +58,27 @@ function settle({ starts, list }, fixed, places, at) {
     const now = times(rest, rest), share = now / size;
     for (let v = 0; v < count; v++) way[v] = rest[v] + share * way[v];
     size = now;
+    yield;
   }
 }
 
-/** The disc in the plane: two numbers for each of its vertices, and the triangles and edges to draw. */
-export function unfold({ disc, round }) {
+/** The disc in the plane, as `unfold` has it, step by step: whoever takes the steps may do something else between. */
+export function* unfolding({ disc, round }) {
   const count = disc.points.length / 3, { triangles } = trianglesOf(disc), fixed = new Uint8Array(count);
   const starts = Uint32Array.from({ length: triangles.length / 3 + 1 }, (_, k) => 3 * k);
   const beside = neighbours(count, matesOf({ points: disc.points, starts, corners: triangles }).edges);
   const places = new Float64Array(2 * count);
   for (const v of round) fixed[v] = 1;
   circle(disc.points, round, places);
-  settle(beside, fixed, places, 0);
-  settle(beside, fixed, places, 1);
+  yield* settle(beside, fixed, places, 0);
+  yield* settle(beside, fixed, places, 1);
   return { places: Float32Array.from(places), triangles, edges: matesOf(disc).edges };
+}
+
+/** The disc in the plane: two numbers for each of its vertices, and the triangles and edges to draw. */
+export function unfold(opened) {
+  for (const steps = unfolding(opened); ;) {
+    const { done, value } = steps.next();
+    if (done) return value;
+  }
 }

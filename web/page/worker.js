@@ -4,16 +4,13 @@ import { isWantOfMemory, kindOf, readLooseOff, readMesh } from './readers.js';
 import { closed, largest, merged, offOf, split, tidy } from './mend.js';
 import { shapeOf } from './shape.js';
 import { readOpened } from './opened.js';
-import { unfold } from './unfold.js';
+import { MOST_UNFOLDED, unfold } from './unfold.js';
 import { Surgery, takeOff } from './surgery.js';
 import { Cycles } from './cycles.js';
 import { Program, wantOfMemory } from './program.js';
 
 const encoder = new TextEncoder();
 const state = { program: null, kind: '', mesh: null, opened: null, files: new Map() };
-
-/** The greatest disc that is laid in the plane: beyond it that takes minutes. */
-const MOST_UNFOLDED = 150000;
 
 function setMesh(mesh, text) {
   state.mesh = mesh;
