@@ -8,6 +8,7 @@ import pathlib
 import re
 import struct
 import subprocess
+import sys
 import time
 
 from chrome import Chrome
@@ -346,6 +347,45 @@ def red_on_the_mesh(page: Page, checks: Checks, room: pathlib.Path):
     checks.expect("what was wrong is no longer shown", red != page.shot())
 
 
+def total_by_tool(program: Program, path: pathlib.Path, count: int) -> float:
+    """The length of so many of the first cycles of a basis, where the tool in Python joins the holes."""
+    sys.path.append(str(MESHES.parent / "tools"))
+    from meshfiles import mend, read_mesh
+
+    mended = mend(read_mesh(path), holes="hub")
+    rows = program.said("basis 1 2 large", mended.off_text(), mended.lengths_text(6)).decode().splitlines()[2:]
+    return sum(int(row.split()[1]) for row in rows[:count]) / 10**6
+
+
+def holes(page: Page, checks: Checks, room: pathlib.Path, program: Program):
+    """A surface with holes, round which loops count: what can be asked of it, and what can't."""
+    points, faces = read_off(MESHES / "eight.off")
+    path = room / "holes.off"
+    path.write_text(off(points, [*faces[1:700], *faces[701:]]))  # faces 0 and 700 have no vertex in common
+    page.choose("basis")
+    page.open(path)
+    said = page.settled(lambda: page.js(f"{page.button('Count loops round holes')}.click()"))
+    facts, note = page.facts(), page.js(text_of("note"))
+    checks.expect("loops round holes count", said.startswith("Done: 5 cycles"), said + page.fault())
+    checks.expect("it is told how", note.startswith("2 holes are joined"), note)
+    checks.expect("the counts are of the open surface", facts["holes"] == "2" and "genus" not in facts, facts)
+    checks.expect("its faces alone", facts["faces"] == str(len(faces) - 2), facts)
+    if program.path:
+        due = total_by_tool(program, path, 5)
+        checks.expect("the tool's total", abs(float(facts["total length"]) - due) < 1e-3, (facts, due))
+    checks.expect("no handles are offered", page.js("document.getElementById('handles').hidden"))
+    checks.expect("nor a certificate", page.js("document.getElementById('certify').hidden"))
+    for command, due in (("loops", "5 loops"), ("cycle", "a shortest")):
+        said = page.choose(command)
+        checks.expect(f"{command} beside holes", said.startswith(f"Done: {due}"), said + page.fault())
+    said = page.choose("trim")
+    checks.expect("a cut wants closed holes", "closed surfaces" in page.fault(), said + page.fault())
+    page.choose("basis")
+    said = page.settled(lambda: page.set_value("lengths", "unit"))
+    checks.expect("each edge counts 1", said.startswith("Done: 5 cycles"), said + page.fault())
+    page.set_value("lengths", "space")
+
+
 def large(page: Page, checks: Checks, room: pathlib.Path):
     """More than 100,000 vertices, a long call that is stopped, and a mesh that is dropped while one runs."""
     page.choose("loops")
@@ -517,6 +557,7 @@ def tried(path: pathlib.Path, program: pathlib.Path | None, room: pathlib.Path, 
         kinds(page, checks, room)
         refusals(page, checks, room)
         red_on_the_mesh(page, checks, room)
+        holes(page, checks, room, told)
         samples(page, checks)
         handles(page, checks, told)
         large(page, checks, room)

@@ -16,7 +16,8 @@ VIEWER = ["units", "walks", "dom", "paint", "camera", "gl", "plain", "view", "fl
 FINDER = ["refusals", "commands", "form", "faults", "mended", "session", "work", "finder", "handles"]
 FINDER += ["samples", "main"]
 PICTURE = ["lines", "readers", "mend", "shape", "opened", "unfold", "scene", "picture"]
-WORKER = ["lines", "readers", "mend", "shape", "opened", "unfold", "surgery", "cycles", "program", "worker"]
+WORKER = ["lines", "readers", "mend", "holes", "mends", "shape", "opened", "unfold", "surgery", "cycles"]
+WORKER += ["program", "worker"]
 
 
 def joined(names: list[str]) -> str:

@@ -13,6 +13,7 @@ program, Chromium, WebKit with its driver. None of these belongs to the set-up b
 
 import argparse
 import importlib.util
+import itertools
 import json
 import math
 import os
@@ -207,6 +208,79 @@ def is_same_surgery(found, shape, known, taken) -> bool:
     return same and max(abs(x - y) for x, y in zip(points, found["points"], strict=True)) < 1e-12
 
 
+def some_faulty_mesh(chance):
+    """The points and faces of a small mesh with holes, often of two parts."""
+    from check_bases import surface
+
+    count, faces = surface(chance)
+    points = [(v, v * v % 97, v % 7) for v in range(count)]
+    again = []
+    if chance.random() < 0.5:  # the same elsewhere, with fewer faces or with more
+        points += [(x + 1000, y, z) for x, y, z in points]
+        again = [[v + count for v in face] for face in faces if chance.random() < 0.9]
+    return points, chance.sample(faces, len(faces) - min(len(faces) // 2, chance.choice([0, 1, 2, 3]))) + again
+
+
+def parted(points, faces):
+    """The same where each face has vertices of its own."""
+    ends = list(itertools.accumulate(map(len, faces)))
+    return [points[v] for face in faces for v in face], [list(range(b - len(f), b)) for f, b in zip(faces, ends)]
+
+
+def mended_by_tool(folder, number, chance):
+    """A small mesh with faults in a file, how the page is to mend it, and what the tool in Python makes of it."""
+    from meshfiles import Soup, mend
+    from meshfiles.writing import mesh_text, points_text
+
+    points, faces = some_faulty_mesh(chance)
+    is_parted, holes = chance.random() < 0.4, chance.choice(["close", "hub", "hub"])
+    if is_parted:
+        points, faces = parted(points, faces)
+    points, starts = [tuple(map(float, point)) for point in points], [0, *itertools.accumulate(map(len, faces))]
+    soup = Soup(points, [v for face in faces for v in face], starts)
+    (folder / f"{number}.off").write_bytes(mesh_text(points_text(points), soup.corners, starts, 0))
+    ways = (["merge"] if is_parted else []) + ["split", "largest", holes]
+    trial = {"mesh": f"{number}.off", "ways": ways, "decimals": chance.choice([0, 3])}
+    return trial, mend(soup, tolerance=0.0 if is_parted else None, holes=holes)
+
+
+def mending_against_tool(wasm, room) -> int:
+    """The number of small meshes that the page's modules mend otherwise than the tool in Python. Where more than two
+    faces meet at an edge, or two edges have the same ends, the tool does more than the page."""
+    sys.path.append(str(TOP / "tools"))
+    chance, folder = random.Random(4), room / "mending"
+    folder.mkdir()
+    made = [mended_by_tool(folder, number, chance) for number in range(300)]
+    made = [(trial, mended) for trial, mended in made if not mended.report.crowded_edges + mended.report.halved_edges]
+    trials, due = zip(*made)
+    (folder / "trials.json").write_text(json.dumps(trials))
+    subprocess.run(["node", WEB / "mending.mjs", wasm, folder], check=True)
+    answers = json.loads((folder / "answers.json").read_text())
+    wrong = sum(not is_same_mending(*pair) for pair in zip(answers, trials, due, strict=True))
+    hubs = sum(bool(mended.hub_edges) for mended in due)
+    print(f"web: {len(due)} meshes mended, {hubs} by a hub, {wrong} otherwise than by the tool")
+    return wrong + (len(due) < 200 or hubs < 40)
+
+
+def is_same_mending(found, trial, mended) -> bool:
+    """Whether the page's modules made what the tool made, where vertices that were parted may have other numbers."""
+    names = dict(zip(found["corners"], mended.corners))
+    if [names[c] for c in found["corners"]] != mended.corners or len(set(names.values())) != len(names):
+        return False
+    of_tool = range(len(names))
+    order = sorted(of_tool, key=names.get)
+    points = [tuple(found["points"][3 * v : 3 * v + 3]) for v in order]
+    origins = [found["names"][v] if found["names"][v] < 2**32 - 1 else -1 for v in order]
+    same = found["starts"] == list(mended.starts) and points == [tuple(map(float, p)) for p in mended.points]
+    same = same and origins == list(mended.vertex_origins)
+    if not mended.hub_edges:
+        return same and found["lengths"] is None
+    rows = [list(map(int, row.split())) for row in found["lengths"].splitlines()]
+    named = sorted([*sorted((names[u], names[v])), units] for u, v, units in rows)
+    due = [list(map(int, row.split())) for row in mended.lengths_text(trial["decimals"]).decode().splitlines()]
+    return same and named == due and found["added"] == [mended.first_added_vertex, mended.first_added_face]
+
+
 def without_memory(wasm, room) -> int:
     """1 where want of memory isn't told as such, or the call behind it isn't answered."""
     (room / "tet").write_bytes((TOP / "meshes/tet.off").read_bytes())
@@ -296,6 +370,7 @@ def main():
             if given.program:
                 wrong += module_against_program(folder / "surf.wasm", given.program, given.room)
                 wrong += handles_against_tool(folder / "surf.wasm", given.program, given.room)
+            wrong += mending_against_tool(folder / "surf.wasm", given.room)
         if folder:
             wrong += in_chromium(folder, given)
             wrong += in_webkit(folder, given)

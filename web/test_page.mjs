@@ -3,13 +3,14 @@ import assert from 'node:assert/strict';
 import { readFileSync } from 'node:fs';
 import { test } from 'node:test';
 import { kindOf, readLooseOff, readMesh, readOff } from './page/readers.js';
-import { closed, firstAtPoint, largest, matesOf, merged, offOf, split, tidy } from './page/mend.js';
+import { firstAtPoint, largest, matesOf, merged, offOf, split, tidy } from './page/mend.js';
+import { closed, closedForHub, hubOf, joined, lengthsWithHub, unitsWithHub, withoutHub } from './page/holes.js';
 import { longestEdge, shapeOf, trianglesOf } from './page/shape.js';
 import { cutAlong, readOpened } from './page/opened.js';
 import { unfold } from './page/unfold.js';
 import { decimalsFor, shownLength } from './page/units.js';
 import { explain } from './page/refusals.js';
-import { readAnswer, readInfo } from './page/commands.js';
+import { countsWithHoles, offHub, readAnswer, readInfo } from './page/commands.js';
 import { kleinBottle } from './page/samples.js';
 import { Session, Stopped } from './page/session.js';
 import { WALKS } from './page/paint.js';
@@ -133,6 +134,55 @@ test('a hole is closed by one face, and each of two holes by its own', () => {
   assert.equal(holes, 2);
   assert.deepEqual(facesOf(mesh).slice(4).map((face) => face.sort().join(' ')).sort(), ['0 1 2 3', '4 5 6 7']);
   assert.ok(matesOf(mesh).mates.every((mate) => mate >= 0));
+});
+
+// Four faces of a cube, round two that aren't there.
+const CUBE = [0, 1, 2, 3, 4, 5, 6, 7].map((v) => [v & 1, (v >> 1) & 1, v >> 2]);
+const BAND = [[0, 1, 5, 4], [1, 3, 7, 5], [3, 2, 6, 7], [2, 0, 4, 6]];
+
+test('a hub joins two holes: a band becomes a torus', () => {
+  const { mesh, holes, parts } = joined(tidy(meshOf(CUBE, BAND))), { hub, points, starts } = mesh;
+  assert.deepEqual([holes, parts, hub.vertex, hub.face, points.length / 3, starts.length - 1], [2, 1, 8, 4, 10, 6]);
+  const { mates, edges } = matesOf(mesh);
+  assert.ok(mates.every((mate) => mate >= 0));
+  assert.equal(edges.length / 2, 12 + 4);
+  const far = hub.edges.map(([u, v]) => [u < 8, v]);
+  assert.deepEqual(far.sort(), [[true, 8], [true, 8], [true, 9], [true, 9]]);
+  const open = withoutHub(mesh);
+  assert.deepEqual([facesOf(open), [...open.points]], [BAND, CUBE.flat()]);
+  assert.equal(facesOf(closedForHub(mesh)).length, 6);
+  assert.match(text(offOf(mesh)), /\n# added faces 4 vertices 8\n$/);
+  assert.deepEqual(hubOf(mesh), { vertex: 8, holes: 2, reach: 20 * Math.sqrt(3) });
+});
+
+test('one hole is closed, and of two parts that with more faces is taken', () => {
+  const far = CUBE.map(([x, y, z]) => [x + 5, y, z]), five = [[0, 2, 3, 1], ...BAND].map((face) => face.map((v) => v + 8));
+  const { mesh, holes, parts } = joined(tidy(meshOf([...CUBE, ...far], [...BAND, ...five])));
+  assert.deepEqual([holes, parts, mesh.hub, mesh.starts.length - 1], [1, 2, undefined, 6]);
+  assert.deepEqual([...mesh.names], [8, 9, 10, 11, 12, 13, 14, 15]);
+  assert.equal(withoutHub(mesh), mesh);
+  assert.equal(hubOf(mesh), null);
+});
+
+test('the edges of a hub are the longest', () => {
+  const lengths = lengthsWithHub(bytes('0 1 5\n0 2 7\n1 2 3\n'), { edges: [[1, 3], [0, 3]] });
+  assert.equal(text(lengths), '0 1 5\n0 2 7\n0 3 4294967295\n1 2 3\n1 3 4294967295\n');
+  assert.equal(text(unitsWithHub({ edges: [[1, 3]] })), 'SURFLEN 2\ndefault 1\n1 3 4294967295\n');
+});
+
+test('cycles over a hub are left out', () => {
+  const hub = { vertex: 8, holes: 2 }, off = 'cycle 30 0 1 3 2 0\n', over = 'cycle 9000 0 8 4 0\n';
+  const read = (rows) => readAnswer('basis', `cycles 2\ntotal 9030\n${rows}`, 1);
+  const found = offHub('basis', read(off + over), hub, 1);
+  assert.deepEqual(found.walks.map(({ vertices }) => vertices), [[0, 1, 3, 2, 0]]);
+  assert.deepEqual(found.facts, [['total length', '3']]);
+  assert.match(found.text, /^1 cycle:/);
+  assert.throws(() => offHub('basis', read(over + over), hub, 1), /longer than an edge of the hub/);
+  assert.throws(() => offHub('basis', read(off + off), hub, 1), /longer than an edge of the hub/);
+  assert.equal(offHub('cycle', readAnswer('cycle', off, 1), hub, 1).walks.length, 1);
+  const rows = readInfo('vertices 10\nedges 16\nfaces 6\ncharacteristic 0\ngenus 1\n');
+  const counts = [['vertices', 8], ['edges', 12], ['faces', 4], ['characteristic', 0], ['holes', 2]];
+  assert.deepEqual(countsWithHoles(rows, hub), counts);
 });
 
 test('a face of five corners is three triangles, and the longest edge is measured', () => {

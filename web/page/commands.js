@@ -4,21 +4,22 @@ import { walkOf } from './walks.js';
 
 /**
  * A row: how many vertices are asked for (`none`, `one`, `many`), the words of the call, the files that these name,
- * and what the page says while the call runs. L is `2`, the file of lengths, or `unit`.
+ * and what the page says while the call runs. L is `2`, the file of lengths, or `unit`. What `hasHoles` can be asked of a
+ * surface with holes that a hub joins, too.
  */
 export const COMMANDS = {
   basis: {
-    label: 'Shortest homology basis', asks: 'none', step: 'Looking for a shortest homology basis',
+    label: 'Shortest homology basis', asks: 'none', hasHoles: true, step: 'Looking for a shortest homology basis',
     words: (L) => `basis 1 ${L} large`, files: ['mesh', 'lengths'],
     certify: (L) => `certify 1 ${L}`, mostCertified: 1000,
   },
   loops: {
-    label: 'Shortest loops at a vertex', asks: 'one', step: 'Looking for shortest loops',
+    label: 'Shortest loops at a vertex', asks: 'one', hasHoles: true, step: 'Looking for shortest loops',
     words: (L, [x]) => `loops 1 ${L} ${x}`, files: ['mesh', 'lengths'],
     certify: (L, [x]) => `certify 1 ${L} ${x}`, mostCertified: Infinity,
   },
   cycle: {
-    label: 'Shortest nonseparating cycle', asks: 'none', step: 'Looking for a shortest nonseparating cycle',
+    label: 'Shortest nonseparating cycle', asks: 'none', hasHoles: true, step: 'Looking for a shortest nonseparating cycle',
     words: (L) => `cycle 1 ${L} large`, files: ['mesh', 'lengths'],
   },
   trim: {
@@ -39,7 +40,7 @@ export const COMMANDS = {
   },
   shortest: {
     label: 'Shortest walk homologous to a closed walk', asks: 'many', step: 'Looking for a shortest walk',
-    isOfWalk: true, words: (L) => `shortest 1 ${L} 3 large`, files: ['mesh', 'lengths', 'walk'],
+    isOfWalk: true, hasHoles: true, words: (L) => `shortest 1 ${L} 3 large`, files: ['mesh', 'lengths', 'walk'],
   },
 };
 
@@ -91,6 +92,28 @@ export function readAnswer(command, text, decimals) {
   const found = readWalks(rows, decimals), count = found.walks.length;
   if (rows[0][0] === 'none') return { ...found, text: 'None: on this surface every cycle separates' };
   return { ...found, text: count ? COUNTED[command](count) : SPHERE[command] };
+}
+
+/**
+ * Of an answer on a surface with holes what keeps off the hub: all walks of a basis or of loops but one less than there
+ * are holes, and these come last.
+ */
+export function offHub(command, { walks, facts, ...found }, { vertex, holes }, decimals) {
+  const isOff = (walk) => walk.vertices.every((v) => v < vertex), isSystem = command === 'basis' || command === 'loops';
+  const kept = walks.slice(0, isSystem ? 1 - holes : walks.length), rest = walks.slice(kept.length);
+  if (!kept.every(isOff) || rest.some(isOff)) throw new Error('A cycle is longer than an edge of the hub');
+  if (!isSystem) return { walks, facts, ...found };
+  const total = kept.reduce((sum, walk) => sum + walk.units, 0);
+  return { walks: kept, facts: [['total length', shownLength(total, decimals)]], text: COUNTED[command](kept.length) };
+}
+
+/** The counts of the surface with its holes, of those of the closed one that the hub makes of it. */
+export function countsWithHoles(rows, { vertex, holes }) {
+  const counts = Object.fromEntries(rows.map(([name, count]) => [name, Number(count)]));
+  return [
+    ['vertices', vertex], ['edges', counts.edges - 4 * (holes - 1)], ['faces', counts.faces - holes],
+    ['characteristic', counts.characteristic - 2 + holes], ['holes', holes],
+  ];
 }
 
 /** The rows of `info` for the table of facts. */

@@ -1,6 +1,6 @@
 // Opens meshes, has the program find what is asked for, and shows what it says.
 import { decimalsFor, plural } from './units.js';
-import { readAnswer, readInfo } from './commands.js';
+import { countsWithHoles, offHub, readAnswer, readInfo } from './commands.js';
 import { $ } from './dom.js';
 import { chosenVertices, command, showFields } from './form.js';
 import { clearFault, showFault, showRefusal } from './faults.js';
@@ -35,6 +35,11 @@ export class Finder {
      */
     this.mesh = { name: '', counts: null, decimals: undefined, measured: undefined, text: null };
     this.forget();
+  }
+
+  /** What is told of the hub that joins the holes of the mesh, or nothing. */
+  get hub() {
+    return this.viewer.shape?.hub;
   }
 
   /** Forgets the answer, its certificate, and what was said of it. */
@@ -95,7 +100,7 @@ export class Finder {
     $('stop').hidden = !isBusy;
     $('save').hidden = $('picture').hidden = isBare;
     $('save').textContent = command().isCut ? 'Save the cut' : 'Save the answer';
-    const canCertify = (certify && this.viewer.count <= mostCertified) || confirm;
+    const canCertify = !this.hub && ((certify && this.viewer.count <= mostCertified) || confirm);
     $('certify').hidden = isBare || !canCertify;
     $('certify').textContent = confirm ? 'Check the evidence' : 'Make a certificate and check it';
     $('save-certificate').hidden = isBusy || !this.certificate;
@@ -209,21 +214,19 @@ export class Finder {
   async count() {
     if (this.mesh.counts) return;
     tell('Testing that the mesh is a closed surface');
-    this.mesh.counts = readInfo((await this.session.call('info 1', ['mesh'])).string);
+    const counts = readInfo((await this.session.call('info 1', ['mesh'])).string);
+    this.mesh.counts = this.hub ? countsWithHoles(counts, this.hub) : counts;
     this.viewer.showFacts(this.mesh.counts);
   }
 
   /** Measures the edges where lengths are those in space; answers how the call names the lengths. */
   async measure() {
-    const { mesh } = this;
-    if ($('lengths').value === 'unit') {
-      mesh.decimals = null;
-      return 'unit';
-    }
-    mesh.decimals = decimalsFor(this.viewer.shape.longest);
+    const { mesh, hub } = this, isUnit = $('lengths').value === 'unit';
+    mesh.decimals = isUnit ? null : decimalsFor(hub ? hub.reach : this.viewer.shape.longest);
+    if (isUnit && !hub) return 'unit';
     if (mesh.measured !== mesh.decimals) {
       tell('Measuring the edges');
-      await this.session.call(`lengths 1 ${mesh.decimals}`, ['mesh'], { keep: 'lengths', isSilent: true });
+      await this.session.ask('measure', { decimals: mesh.decimals });
       mesh.measured = mesh.decimals;
     }
     return '2';
@@ -263,17 +266,23 @@ export class Finder {
   }
 
   async search() {
-    const list = this.vertices(), { step, words, files, isCut, confirm } = command();
+    const list = this.vertices(), { step, words, files, isCut, confirm, hasHoles } = command();
+    if (this.hub && !hasHoles) throw new Error('This is for closed surfaces: open the file again, and close its holes.');
     await this.count();
     const lengths = await this.measure(), walk = await this.prepare(lengths, list);
     tell(step);
     const keep = isCut ? 'cut' : confirm ? 'evidence' : undefined;
     const said = await this.session.call(words(lengths, list), files, { keep, isLong: isCut });
     this.answer = { bytes: said.text, name: isCut ? 'open.off' : `${$('command').value}.txt`, lengths, list };
-    const { decimals } = this.mesh;
-    const found = isCut ? await this.openedCut() : readAnswer($('command').value, said.string, decimals);
+    const found = isCut ? await this.openedCut() : this.read(said.string);
     this.show({ ...found, walks: [...(walk ? [drawn(walk)] : []), ...found.walks] }, said.ms);
     if (found.isFlat) await this.showUnfolded();
+  }
+
+  /** What an answer says; of a surface with holes, what keeps off the hub. */
+  read(text) {
+    const { decimals } = this.mesh, name = $('command').value, found = readAnswer(name, text, decimals);
+    return this.hub ? offHub(name, found, this.hub, decimals) : found;
   }
 
   /** Shows what was found, and how many milliseconds the program took. */

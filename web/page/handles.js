@@ -27,9 +27,9 @@ export class Handles {
     $('save-mesh').onclick = () => save(finder.mesh.text, finder.mesh.name);
   }
 
-  /** Offers the cycles of a basis; nothing where another answer is shown, or none. */
+  /** Offers the cycles of a basis; nothing where another answer is shown, or none, or a hub joins holes. */
   offer(found) {
-    this.cycles = found && $('command').value === 'basis' ? found.walks : [];
+    this.cycles = found && $('command').value === 'basis' && !this.finder.hub ? found.walks : [];
     const lengths = [...new Set(this.cycles.map(({ units }) => units))];
     this.bounds = [...lengths.sort((a, b) => a - b), Infinity];
     $('handles-bound').max = String(this.bounds.length - 1);

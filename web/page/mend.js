@@ -1,5 +1,5 @@
-// Changes a mesh so that it is a closed surface: equal points become one, what hangs on nothing is left out, the
-// largest part is taken, a vertex where several fans touch is split, and holes are closed.
+// Changes a mesh so that it is a surface: equal points become one, what hangs on nothing is left out, the largest part
+// is taken, and a vertex where several fans touch is split.
 import { Faces, Table } from './lines.js';
 
 /** The mesh's faces in a loop: what is called gets the place of the first corner and that behind the last. */
@@ -171,39 +171,13 @@ export function split(mesh, mates = matesOf(mesh).mates) {
   return { mesh: { ...mesh, points: points.done(), corners, names: names.done() }, added: copies.size };
 }
 
-/** The mesh with a face over each hole, and how many were closed. Each vertex has one fan, so a hole is one round. */
-export function closed(mesh) {
-  const whole = split(mesh).mesh, { mates, ahead } = matesOf(whole), { corners } = whole;
-  const beside = new Map(), link = (u, v) => beside.set(u, [...(beside.get(u) || []), v]);
-  for (let k = 0; k < corners.length; k++) {
-    if (mates[k] !== -1) continue;
-    link(corners[k], ahead[k]);
-    link(ahead[k], corners[k]);
-  }
-  const faces = new Faces(), done = new Set();
-  for (const start of beside.keys()) {
-    const round = [];
-    for (let at = start, last = -1; at !== undefined && !done.has(at); ) {
-      done.add(at);
-      round.push(at);
-      const [a, b] = beside.get(at);
-      [last, at] = [at, a === last ? b : a];
-    }
-    if (round.length >= 3) faces.add(round);
-  }
-  const { starts, corners: added } = faces.done(), size = corners.length, all = new Uint32Array(size + added.length);
-  all.set(corners);
-  all.set(added, size);
-  const more = starts.subarray(1).map((at) => at + size), ends = new Uint32Array(whole.starts.length + more.length);
-  ends.set(whole.starts);
-  ends.set(more, whole.starts.length);
-  return { mesh: { ...whole, starts: ends, corners: all }, holes: more.length };
-}
-
 const decimal = (x) => (Number.isInteger(x) ? String(x) : x.toFixed(9).replace(/\.?0+$/, ''));
 
-/** The mesh as the text that `surf` reads, a piece at a time, so that no one string is too long. */
-export function offOf({ points, starts, corners }) {
+/**
+ * The mesh as the text that `surf` reads, a piece at a time, so that no one string is too long. Where a hub joins holes a
+ * comment at the end tells from which face and vertex on it is added.
+ */
+export function offOf({ points, starts, corners, hub }) {
   const encoder = new TextEncoder(), pieces = [];
   let rows = ['OFF', `${points.length / 3} ${starts.length - 1} 0`];
   const flush = () => {
@@ -218,6 +192,7 @@ export function offOf({ points, starts, corners }) {
     rows.push(`${to - from} ${corners.subarray(from, to).join(' ')}`);
     if (rows.length > 50000) flush();
   });
+  if (hub) rows.push(`# added faces ${hub.face} vertices ${hub.vertex}`);
   flush();
   const whole = new Uint8Array(pieces.reduce((sum, piece) => sum + piece.length, 0));
   pieces.reduce((at, piece) => (whole.set(piece, at), at + piece.length), 0);

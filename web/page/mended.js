@@ -8,6 +8,11 @@ export const MENDED = {
   merge: ({ before, after }) => (before.vertices === after.vertices ? 'No two points are equal: nothing was merged'
     : `${vertexCount(before.vertices - after.vertices)} fewer: equal points were merged`),
   close: ({ holes }) => `${plural(holes, 'hole was', 'holes were')} closed, each with one face: no edge is added`,
+  hub: ({ holes, parts }) => {
+    const which = parts > 1 ? `The largest of ${plural(parts, 'part')} is kept. ` : '';
+    if (holes < 2) return `${which}The one hole was closed by one face: a loop round it bounds`;
+    return `${which}${plural(holes, 'hole')} are joined by a hub, which isn’t shown: loops round them count`;
+  },
   split: ({ added }) => `The surface was taken apart: ${vertexCount(added)} more`,
   largest: ({ parts, before, after }) => (
     `The largest of ${plural(parts, 'part')} is kept: ${after.faces} of ${plural(before.faces, 'face')}`),

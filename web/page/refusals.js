@@ -11,6 +11,7 @@
 
 const MERGE = { label: 'Merge equal points', how: 'merge' };
 const CLOSE = { label: 'Close the holes', how: 'close' };
+const HUB = { label: 'Count loops round holes', how: 'hub' };
 const SPLIT = { label: 'Take it apart there', how: 'split' };
 const LARGEST = { label: 'Keep the largest part', how: 'largest' };
 const TIDY = { label: 'Leave such vertices and faces out', how: 'tidy' };
@@ -66,7 +67,7 @@ const SURFACE = {
   empty: () => ({ text: 'The mesh has no faces. Points and curves have to be made a surface first.' }),
   border: (it) => ({
     text: `The mesh is open: ${it.edge()} has a face on one side only. There is a hole, or points weren't merged.`,
-    edges: it.numbers.slice(0, 2), faces: it.numbers.slice(2), cures: [MERGE, CLOSE],
+    edges: it.numbers.slice(0, 2), faces: it.numbers.slice(2), cures: [MERGE, CLOSE, HUB],
   }),
   crowded: (it) => ({
     text: `Three faces or more meet at ${it.edge()}: a face stands twice, or there is an inner wall.`,

@@ -1,7 +1,9 @@
 // The worker: it keeps the mesh and the files that calls name, and calls the program, so that the page stays alive.
 import { Lines } from './lines.js';
-import { isWantOfMemory, kindOf, readLooseOff, readMesh } from './readers.js';
-import { closed, largest, merged, offOf, split, tidy } from './mend.js';
+import { isWantOfMemory, kindOf, readMesh } from './readers.js';
+import { merged, offOf, tidy } from './mend.js';
+import { closedForHub, hubOf, lengthsWithHub, unitsWithHub, withoutHub } from './holes.js';
+import { MENDS } from './mends.js';
 import { shapeOf } from './shape.js';
 import { readOpened } from './opened.js';
 import { MOST_UNFOLDED, unfold } from './unfold.js';
@@ -18,6 +20,8 @@ function setMesh(mesh, text) {
   state.files.clear();
   state.files.set('mesh', text || offOf(mesh));
 }
+
+const countsOf = ({ points, starts }) => ({ vertices: points.length / 3, faces: starts.length - 1 });
 
 /** A call of the program. `keep` is the name of a file that its answer becomes, which is told where it isn't silent. */
 function call({ words, files, keep, isSilent }) {
@@ -63,15 +67,6 @@ function wayTo(u, v, lengths) {
   return way.reverse();
 }
 
-const mends = {
-  merge: (mesh) => ({ mesh: tidy(merged(mesh)) }),
-  tidy: (mesh) => ({ mesh: tidy(mesh) }),
-  largest: (mesh) => largest(tidy(mesh)),
-  split: (mesh) => split(tidy(mesh)),
-  close: (mesh) => closed(tidy(mesh)),
-  loose: () => ({ mesh: tidy(readLooseOff(state.files.get('mesh'))) }),
-};
-
 const does = {
   /** Loads the program, makes the browser compile what is called most, and says whether it cuts through vertices. */
   async load({ program }) {
@@ -89,17 +84,32 @@ const does = {
     return { kind, ...shapeOf(state.mesh) };
   },
 
-  /** Mends the mesh. A mended OFF is written anew, so its names are kept from here on. */
+  /** Mends the mesh, without its hub. A mended OFF is written anew, so its names are kept from here on. */
   mend({ how }) {
-    const before = { vertices: state.mesh.points.length / 3, faces: state.mesh.starts.length - 1 };
-    const { mesh, ...more } = mends[how](state.mesh);
+    const given = withoutHub(state.mesh), { mesh, ...more } = MENDS[how](given, state.files.get('mesh'));
     if (!mesh.corners.length) throw new Error('nothing of the mesh is left');
     setMesh(mesh);
-    const after = { vertices: mesh.points.length / 3, faces: mesh.starts.length - 1 };
-    return { kind: state.kind, ...shapeOf(mesh), before, after, ...more };
+    const before = countsOf(given), after = countsOf(mesh);
+    return { kind: state.kind, ...shapeOf(withoutHub(mesh)), hub: hubOf(mesh), before, after, ...more };
   },
 
   call,
+
+  /**
+   * Measures the edges, in units of 10^-decimals, or each as 1 without decimals. They become the file `lengths`. A hub's
+   * are the longest there are.
+   */
+  measure({ decimals }) {
+    const { mesh, files } = state, keep = { keep: 'lengths', isSilent: true };
+    if (decimals === null) {
+      files.set('lengths', unitsWithHub(mesh.hub));
+      return {};
+    }
+    files.set('measured', mesh.hub ? offOf(closedForHub(mesh)) : files.get('mesh'));
+    const said = call({ words: `lengths 1 ${decimals}`, files: ['measured'], ...keep });
+    if (mesh.hub && said.status <= 1) files.set('lengths', lengthsWithHub(files.get('lengths'), mesh.hub));
+    return said;
+  },
 
   /** A file of the page's, for the next call. */
   file({ name, text }) {
