@@ -174,3 +174,23 @@ impl Queue for RadixHeap {
         self.heaps[0].pop()
     }
 }
+
+/// Up to this greatest length a bucket for each distance is worth its memory.
+pub const MOST_BUCKETS: u64 = 1 << 12;
+
+/// Calls something with the queue that suits the lengths of a network.
+macro_rules! with_queue {
+    ($network:expr, |$queue:ident| $call:expr) => {
+        if $network.shortest == $network.longest {
+            let $queue = $crate::queue::Fifo::default();
+            $call
+        } else if $network.longest < $crate::queue::MOST_BUCKETS {
+            let $queue = $crate::queue::Buckets::new($network.longest);
+            $call
+        } else {
+            let $queue = $crate::queue::RadixHeap::new();
+            $call
+        }
+    };
+}
+pub(crate) use with_queue;

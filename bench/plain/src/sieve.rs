@@ -5,8 +5,9 @@ use crate::signature::Signature;
 const NONE: u32 = u32::MAX;
 
 /// Rows in echelon form. Row `i` is a sum of the first `i + 1` signatures that were admitted.
+#[derive(Clone)]
 pub struct Sieve<const N: usize> {
-    rows: Vec<Signature<N>>,
+    pub rows: Vec<Signature<N>>,
     /// The greatest place of each row, and for each place the row whose greatest it is.
     greatest: Vec<u32>,
     row_of: Vec<u32>,

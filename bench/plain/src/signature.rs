@@ -41,6 +41,15 @@ impl<const N: usize> Signature<N> {
         Some(64 * word + self.0[word].ilog2() as usize)
     }
 
+    /// The greatest place in the set below an end.
+    pub fn greatest_below(&self, end: usize) -> Option<usize> {
+        (0..end.div_ceil(64)).rev().find_map(|word| {
+            let below = if end / 64 == word { (1 << (end % 64)) - 1 } else { u64::MAX };
+            let left = self.0[word] & below;
+            (left != 0).then(|| 64 * word + left.ilog2() as usize)
+        })
+    }
+
     #[inline(always)]
     fn scattered(&self) -> usize {
         let mix =

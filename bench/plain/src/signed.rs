@@ -37,6 +37,18 @@ impl<const N: usize> Signed<N> {
         &self.signatures[self.number[place] as usize]
     }
 
+    #[inline(always)]
+    pub fn is_marked(&self, place: usize) -> bool {
+        self.network.arcs[place] & MARK != 0
+    }
+
+    /// Adds to a sum the signature of the arc at a place, if it has one.
+    pub fn add_over(&self, place: usize, sum: &mut Signature<N>) {
+        if self.is_marked(place) {
+            sum.add(self.signature(place));
+        }
+    }
+
     /// Takes the mark from arcs whose signature is empty.
     pub fn unmark_empty(&mut self) {
         for (arc, &number) in self.network.arcs.iter_mut().zip(&self.number) {
@@ -48,7 +60,7 @@ impl<const N: usize> Signed<N> {
 
     /// The number of the signature of the arc at a place behind a way of another class.
     pub fn class_behind(&self, class: u32, place: usize, classes: &mut Classes<N>) -> u32 {
-        if self.network.arcs[place] & MARK == 0 {
+        if !self.is_marked(place) {
             return class;
         }
         let sum = classes.signatures[class as usize].plus(self.signature(place));

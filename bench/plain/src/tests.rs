@@ -68,7 +68,7 @@ fn ways_from(mesh: &Mesh, lengths: &[u32], base: u32) -> Vec<(u64, u128)> {
 
 /// The lengths of the greedy choice from the loops over every edge at some bases (J. D. Horton, "A
 /// Polynomial-Time Algorithm to Find the Shortest Cycle Basis of a Graph", 1987).
-fn least_lengths(mesh: &Mesh, lengths: &[u32], bases: impl Iterator<Item = u32>) -> Vec<u64> {
+pub fn least_lengths(mesh: &Mesh, lengths: &[u32], bases: impl Iterator<Item = u32>) -> Vec<u64> {
     let mut loops = vec![];
     for base in bases {
         let ways = ways_from(mesh, lengths, base);
@@ -82,7 +82,7 @@ fn least_lengths(mesh: &Mesh, lengths: &[u32], bases: impl Iterator<Item = u32>)
     loops.into_iter().filter(|&(_, chain)| chains.admit(chain)).map(|(length, _)| length).collect()
 }
 
-fn torus(a: u32, b: u32, is_one_sided: bool) -> String {
+pub fn torus(a: u32, b: u32, is_one_sided: bool) -> String {
     let at =
         |i: u32, j: u32| if i == a && is_one_sided { (b - j % b) % b } else { i % a * b + j % b };
     let squares = (0..a).flat_map(|i| (0..b).map(move |j| (i, j)));
@@ -144,7 +144,7 @@ fn meshes() -> Vec<String> {
 }
 
 /// Lengths of many kinds: equal, with ties, scattered, and some that are very long.
-fn lengths(mesh: &Mesh) -> Vec<Vec<u32>> {
+pub fn lengths(mesh: &Mesh) -> Vec<Vec<u32>> {
     let mut state = 1u64;
     let mut below = |bound: u64| {
         state = state.wrapping_mul(6364136223846793005).wrapping_add(1442695040888963407);
@@ -161,7 +161,7 @@ fn lengths(mesh: &Mesh) -> Vec<Vec<u32>> {
 }
 
 /// Calls a check on each mesh with each of its lengths.
-fn on_all(check: impl Fn(&text::Off, &[u32])) {
+pub fn on_all(check: impl Fn(&text::Off, &[u32])) {
     for text in meshes() {
         let off = text::read_off(text.as_bytes(), true).expect("a surface");
         lengths(&off.mesh).iter().for_each(|lengths| check(&off, lengths));

@@ -12,124 +12,149 @@
 mod ball;
 mod bases;
 mod probes;
-mod round;
+pub mod record;
+pub mod round;
 
 use crate::choice::{Choice, Loop};
 use crate::cotree::{Cotree, Leftover};
 use crate::mesh::Mesh;
 use crate::network::Network;
-use crate::queue::{Buckets, Fifo, Queue, RadixHeap};
+use crate::queue::{with_queue, Queue};
 use crate::sieve::Sieve;
 use crate::signature::Signature;
 use crate::signed::Signed;
 use crate::tree::{Tree, FAR};
 use crate::walks::{cycles_at, Cycle};
 use bases::Base;
+use record::{Fault, Round};
 use round::Searches;
 
 /// Each cap is so many times the one before; the first, the shortest loop.
 const CAP_GROWTH: u64 = 4;
-/// Up to this greatest length a bucket for each distance is worth its memory.
-const MOST_BUCKETS: u64 = 1 << 12;
 
 /// The first `wanted` cycles of the shortest basis: all, or one.
 pub fn shortest<const N: usize>(mesh: &Mesh, lengths: &[u32], wanted: usize) -> Vec<Cycle> {
     let network = Network::new(mesh, lengths);
-    if network.shortest == network.longest {
-        shortest_with::<_, N>(mesh, lengths, wanted, network, Fifo::default())
-    } else if network.longest < MOST_BUCKETS {
-        let buckets = Buckets::new(network.longest);
-        shortest_with::<_, N>(mesh, lengths, wanted, network, buckets)
-    } else {
-        shortest_with::<_, N>(mesh, lengths, wanted, network, RadixHeap::new())
-    }
+    with_queue!(network, |queue| {
+        let mut finder = Finder::<_, N>::new(mesh, lengths, network, queue, Fault::None);
+        let places = if wanted < mesh.rank() { finder.first_place() } else { finder.places(None) };
+        finder.cycles(&places)
+    })
 }
 
-fn shortest_with<Q: Queue, const N: usize>(
-    mesh: &Mesh,
-    lengths: &[u32],
-    wanted: usize,
-    network: Network,
-    mut queue: Q,
-) -> Vec<Cycle> {
-    let mut tree = Tree::new(mesh.vertices);
-    tree.grow(&network, 0, FAR, &mut queue);
-    let left = Cotree::heaviest(mesh, lengths, &tree);
-    let cut = bases::on_cut(mesh, &tree, &left.left);
-    drop(tree);
-    let signed = Signed::<N>::new(mesh, network, &left);
-    let mut rounds = Rounds::new(Searches::new(signed, queue, mesh.vertices));
-    let places = if wanted < mesh.rank() {
-        rounds.first_place(&cut)
-    } else {
-        rounds.places(mesh, &cut, &left.left)
-    };
-    rounds.restore();
-    cycles_at(mesh, &rounds.searches.signed, &places, &mut rounds.searches.queue)
-}
-
-/// Searches, with the graph and the signatures as they were before any round.
-struct Rounds<Q, const N: usize> {
-    searches: Searches<Q, N>,
+/// Searches, and where they are to be made. The graph and the signatures are kept as they were
+/// before any round.
+pub struct Finder<'a, Q, const N: usize> {
+    pub searches: Searches<Q, N>,
+    mesh: &'a Mesh,
+    left: Vec<Leftover>,
+    cut: Vec<Base>,
     whole: Vec<u64>,
     signatures: Vec<Signature<N>>,
 }
 
-impl<Q: Queue, const N: usize> Rounds<Q, N> {
-    fn new(searches: Searches<Q, N>) -> Self {
-        let (whole, signatures) =
-            (searches.signed.network.arcs.clone(), searches.signed.signatures.clone());
-        Rounds { searches, whole, signatures }
+impl<'a, Q: Queue, const N: usize> Finder<'a, Q, N> {
+    pub fn new(
+        mesh: &'a Mesh,
+        lengths: &[u32],
+        network: Network,
+        mut queue: Q,
+        fault: Fault,
+    ) -> Self {
+        let mut tree = Tree::new(mesh.vertices);
+        tree.grow(&network, 0, FAR, &mut queue);
+        let cotree = Cotree::heaviest(mesh, lengths, &tree);
+        let cut = bases::on_cut(mesh, &tree, &cotree.left);
+        let signed = Signed::<N>::new(mesh, network, &cotree);
+        let (whole, signatures) = (signed.network.arcs.clone(), signed.signatures.clone());
+        let searches = Searches::new(signed, queue, mesh.vertices, fault);
+        Finder { searches, mesh, left: cotree.left, cut, whole, signatures }
     }
 
-    fn restore(&mut self) {
+    pub fn restore(&mut self) {
         self.searches.signed.network.arcs.copy_from_slice(&self.whole);
         self.searches.signed.signatures.copy_from_slice(&self.signatures);
     }
 
+    /// The cycles at places.
+    pub fn cycles(&mut self, places: &[(u64, u32)]) -> Vec<Cycle> {
+        self.restore();
+        cycles_at(self.mesh, &self.searches.signed, places, &mut self.searches.queue)
+    }
+
     /// The place of the shortest cycle.
-    fn first_place(&mut self, cut: &[Base]) -> Vec<(u64, u32)> {
+    fn first_place(&mut self) -> Vec<(u64, u32)> {
         let mut choice = Choice::new(1);
-        self.searches.round(cut, FAR, &mut choice);
+        self.searches.round(&self.cut, FAR, &mut choice, |_| ());
         choice.loops.iter().map(Loop::place).collect()
     }
 
-    /// The places of a whole basis.
-    fn places(&mut self, mesh: &Mesh, cut: &[Base], left: &[Leftover]) -> Vec<(u64, u32)> {
-        let mut choice = Choice::whole(mesh.rank());
-        choice.offer(&self.searches.loops_at(cut[0].vertex, FAR));
-        let volumes = Volumes::of(self.searches.ball.distances().map(|(_, distance)| distance));
-        let ends: Vec<_> = left.iter().map(|left| mesh.ends(left.side)).collect();
-        self.searches.probe(&ends, &mut choice);
-        let (mut places, mut span) = (vec![], Sieve::new());
+    /// The places of a whole basis. Rounds are kept where it is asked for.
+    pub fn places(&mut self, mut rounds: Option<&mut Vec<Round<N>>>) -> Vec<(u64, u32)> {
+        let (mut choice, volumes) = self.beginning();
+        let (mut places, mut finals, mut quotient) = (vec![], Sieve::new(), Sieve::new());
         let mut cap = CAP_GROWTH * choice.loops[0].length;
         loop {
             if choice.longest().is_some_and(|longest| longest <= cap + cap / 4) {
                 cap = FAR;
             }
-            let bases = self.cheaper_bases(&volumes, cut, cap, &choice, mesh.vertices);
-            self.searches.round(&bases, cap, &mut choice);
+            let bases = self.cheaper_bases(&volumes, cap, &choice);
+            let (mut sheets, is_kept) = (vec![], rounds.is_some());
+            let keep = |sheet| {
+                if is_kept {
+                    sheets.push(sheet)
+                }
+            };
+            self.searches.round(&bases, cap, &mut choice, keep);
             let later =
                 choice.loops.split_off(choice.loops.partition_point(|found| found.length <= cap));
             places.extend(choice.loops.iter().map(Loop::place));
+            if let Some(rounds) = &mut rounds {
+                rounds.push(Round { quotient: quotient.rows.clone(), end: places.len(), sheets });
+            }
             if later.is_empty() {
                 return places;
             }
-            choice.loops.iter().for_each(|found| _ = span.admit(found.signature));
-            choice = self.reduced(&span, later);
+            choice.loops.iter().for_each(|found| _ = finals.admit(found.signature));
+            quotient = self.quotient_by(&finals, &later);
+            choice = self.reduced(&finals, &quotient, later);
             cap = cap.saturating_mul(CAP_GROWTH).max(choice.loops[0].length);
         }
     }
 
+    /// A first choice, and how many vertices there are round one.
+    fn beginning(&mut self) -> (Choice<N>, Volumes) {
+        let mut choice = Choice::whole(self.mesh.rank());
+        choice.offer(&self.searches.loops_at(self.cut[0].vertex, FAR));
+        let volumes = Volumes::of(self.searches.ball.distances().map(|(_, distance)| distance));
+        let ends: Vec<_> = self.left.iter().map(|left| self.mesh.ends(left.side)).collect();
+        self.searches.probe(&ends, &mut choice);
+        (choice, volumes)
+    }
+
+    /// What the signatures of edges are taken modulo: the final loops.
+    fn quotient_by(&self, finals: &Sieve<N>, later: &[Loop<N>]) -> Sieve<N> {
+        let mut quotient = finals.clone();
+        if self.searches.fault == Fault::WidensQuotients {
+            quotient.admit(later[0].signature);
+        }
+        quotient
+    }
+
     /// All signatures modulo the final loops, and the choice of the later ones.
-    fn reduced(&mut self, span: &Sieve<N>, mut later: Vec<Loop<N>>) -> Choice<N> {
+    fn reduced(
+        &mut self,
+        finals: &Sieve<N>,
+        quotient: &Sieve<N>,
+        mut later: Vec<Loop<N>>,
+    ) -> Choice<N> {
         self.restore();
         for signature in &mut self.searches.signed.signatures {
-            *signature = span.remainder(*signature);
+            *signature = quotient.remainder(*signature);
         }
         self.searches.signed.unmark_empty();
         for found in &mut later {
-            found.signature = span.remainder(found.signature);
+            found.signature = finals.remainder(found.signature);
         }
         let mut choice = Choice::whole(later.len());
         choice.offer(&later);
@@ -139,22 +164,15 @@ impl<Q: Queue, const N: usize> Rounds<Q, N> {
     /// The cut or the cover, by how many vertices their searches come to, told by the volumes round
     /// one vertex. Scouts spare most of the cut where loops are alike, so it may cost a few times
     /// as much.
-    fn cheaper_bases(
-        &self,
-        volumes: &Volumes,
-        cut: &[Base],
-        cap: u64,
-        choice: &Choice<N>,
-        vertices: usize,
-    ) -> Vec<Base> {
-        let signed = &self.searches.signed;
+    fn cheaper_bases(&self, volumes: &Volumes, cap: u64, choice: &Choice<N>) -> Vec<Base> {
+        let (signed, cut) = (&self.searches.signed, &self.cut);
         let longest = choice.longest().map_or(cap, |longest| longest.min(cap));
-        let cover = bases::covering(signed, choice, vertices);
+        let cover = bases::covering(signed, choice, self.mesh.vertices);
         let spared = if signed.network.shortest == signed.network.longest { 2 } else { 4 };
         let by_cover: u64 =
             cover.iter().map(|base| volumes.within(base.reach.min(longest) / 2)).sum();
         if cut.len() as u64 * volumes.within(longest / 2) <= spared * by_cover {
-            cut.to_vec()
+            cut.clone()
         } else {
             cover
         }

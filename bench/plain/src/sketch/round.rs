@@ -2,6 +2,7 @@
 
 use super::ball::Ball;
 use super::bases::Base;
+use super::record::{Fault, Sheet};
 use crate::choice::{Choice, Loop};
 use crate::queue::Queue;
 use crate::signature::Classes;
@@ -14,6 +15,7 @@ pub struct Searches<Q, const N: usize> {
     pub ball: Ball<N>,
     pub queue: Q,
     found: Classes<N>,
+    pub fault: Fault,
 }
 
 /// How much farther than needed a scout searches, in hundredths.
@@ -22,8 +24,8 @@ const SCOUT_SURPLUS: u64 = 20;
 const SCOUT_EVERY: usize = 8;
 
 impl<Q: Queue, const N: usize> Searches<Q, N> {
-    pub fn new(signed: Signed<N>, queue: Q, vertices: usize) -> Self {
-        Searches { signed, ball: Ball::new(vertices), queue, found: Classes::new() }
+    pub fn new(signed: Signed<N>, queue: Q, vertices: usize, fault: Fault) -> Self {
+        Searches { signed, ball: Ball::new(vertices), queue, found: Classes::new(), fault }
     }
 
     /// The shortest loop of each class at a base, up to a length, in the order of their places.
@@ -53,43 +55,72 @@ impl<Q: Queue, const N: usize> Searches<Q, N> {
 
     /// Searches at each base, unless an earlier search spares it, for loops up to `cap` that
     /// improve the choice. What was searched or is spared leaves the graph: loops through it were
-    /// offered, or don't matter.
-    pub fn round(&mut self, bases: &[Base], cap: u64, choice: &mut Choice<N>) {
-        let vertices = self.signed.network.starts.len() - 1;
-        let mut is_gone = vec![false; vertices];
+    /// offered, or don't matter. Each search is handed on as a sheet.
+    pub fn round(
+        &mut self,
+        bases: &[Base],
+        cap: u64,
+        choice: &mut Choice<N>,
+        mut keep: impl FnMut(Sheet<N>),
+    ) {
+        let mut is_gone = vec![false; self.vertices()];
         let (mut searches, mut is_useful) = (0, true);
         for base in bases {
-            if is_gone[base.vertex as usize] {
+            if is_gone[base.vertex as usize] || self.passes_over(base.vertex) {
                 continue;
             }
             searches += 1;
-            let mut bound = mattering(choice, cap, base);
-            if bound != FAR && (is_useful || searches % SCOUT_EVERY == 0) {
-                bound += bound / 100 * SCOUT_SURPLUS;
-            }
+            let is_scout = is_useful || searches % SCOUT_EVERY == 0;
+            let bound = self.bound_at(mattering(choice, cap, base), is_scout);
             let loops = self.loops_at(base.vertex, bound);
             choice.offer(&loops);
-            let mut slack = 0;
+            let mut margin = 0;
             if choice.is_full() {
                 let mattering = mattering(choice, cap, base);
-                slack = slack_of(choice, &loops, mattering);
-                is_useful = slack >= self.signed.network.shortest;
+                margin = slack_of(choice, &loops, mattering);
+                is_useful = margin >= self.signed.network.shortest;
                 if bound != FAR {
-                    slack = slack.min(bound.saturating_sub(mattering) / 2);
+                    margin = margin.min(bound.saturating_sub(mattering) / 2);
                 }
             }
-            self.take_out(base.vertex, slack, &mut is_gone);
+            if self.fault == Fault::WidensMargins {
+                margin += self.signed.network.shortest;
+            }
+            let served = self.take_out(base.vertex, margin, &mut is_gone);
+            keep(Sheet { bound, margin, served, loops });
         }
     }
 
-    /// Takes out the base, and what is no farther than the slack.
-    fn take_out(&mut self, base: u32, slack: u64, is_gone: &mut [bool]) {
-        for (vertex, distance) in self.ball.distances() {
-            if vertex == base || slack > 0 && distance <= slack {
-                is_gone[vertex as usize] = true;
-                self.signed.bar(vertex);
-            }
+    pub fn vertices(&self) -> usize {
+        self.signed.network.starts.len() - 1
+    }
+
+    fn passes_over(&self, base: u32) -> bool {
+        self.fault == Fault::SkipsRounds || self.fault == Fault::LeavesOut && base % 3 == 1
+    }
+
+    /// The length up to which a search finds all loops.
+    fn bound_at(&self, mattering: u64, is_scout: bool) -> u64 {
+        let mut bound = mattering;
+        if bound != FAR && is_scout {
+            bound += bound / 100 * SCOUT_SURPLUS;
         }
+        if bound != FAR && self.fault == Fault::LowersBounds {
+            bound -= bound / 4;
+        }
+        bound
+    }
+
+    /// Takes out the base, and what is no farther than a margin. Returns what was taken out.
+    pub fn take_out(&mut self, base: u32, margin: u64, is_gone: &mut [bool]) -> Vec<u32> {
+        let is_spared =
+            |&(vertex, distance): &(u32, u64)| vertex == base || margin > 0 && distance <= margin;
+        let gone = self.ball.distances().filter(is_spared).map(|(vertex, _)| vertex).collect();
+        for &vertex in &gone {
+            is_gone[vertex as usize] = true;
+            self.signed.bar(vertex);
+        }
+        gone
     }
 }
 
