@@ -6,8 +6,8 @@
 The package is libcgal-demo unless another is named; it is installed, or with --root unpacked as `survey_meshes.py`
 takes it. Each file is taken in by `to_off.py --close`; files of equal bytes count once, and surfaces without a loop
 and what is no surface are left out. Lengths are those of `surf lengths` in millionths of the file's unit, or where an
-edge doesn't fit in these, in thousandths or in billionths; the total is in the file's unit. Seconds are of one
-processor, the least of the repeats. A basis above 20,000 vertices wants the word `large`; where the program doesn't
+edge doesn't fit in these, in thousandths or in billionths; the total is in the file's unit. A surface without a
+genus has its number of crosscaps. Seconds are of one processor, the least of the repeats. A basis above 20,000 vertices wants the word `large`; where the program doesn't
 know it, the row says so. `--save` writes the rows as a table with tabs too.
 """
 import argparse
@@ -24,7 +24,7 @@ import speed
 sys.path.insert(0, str(Path(__file__).resolve().parent.parent / "tools"))
 import survey_meshes  # noqa: E402
 
-HEAD = ["file", "vertices", "surface", "cycles", "total length", "seconds", "MB"]
+HEAD = ["file", "vertices", "genus", "total length", "seconds"]
 
 
 def said(surf: Path, *words: str) -> list[str] | None:
@@ -65,7 +65,8 @@ def row(name: str, mesh: Path, options: argparse.Namespace, work: Path) -> list[
     info = said(options.surf, "info", str(mesh))
     if info is None or info[4].split()[1] == "0":
         return None
-    vertices, kind = int(info[0].split()[1]), info[4]
+    vertices = int(info[0].split()[1])
+    cells = [name, f"{vertices:,}", info[4].removeprefix("genus ")]
     lengths = work / "mended.len"
     decimals = lengths_of(options.surf, mesh, lengths)
     runner = speed.Runner([str(options.surf)], work / "answer")
@@ -73,11 +74,12 @@ def row(name: str, mesh: Path, options: argparse.Namespace, work: Path) -> list[
     for _ in range(options.repeat):
         runner.turn(words, options.limit)
     if runner.is_refused:
-        return [name, f"{vertices:,}", kind, "-", "wants `large`", "-", "-"]
+        return [*cells, "", "wants `large`"]
+    seconds = runner.figures()[0]
     if runner.is_late:
-        return [name, f"{vertices:,}", kind, "-", "-", *runner.figures()]
-    cycles, total = (line.split()[1] for line in runner.answer.read_text().splitlines()[:2])
-    return [name, f"{vertices:,}", kind, cycles, f"{int(total) / 10**decimals:.6g}", *runner.figures()]
+        return [*cells, "", seconds]
+    total = runner.answer.read_text().splitlines()[1].split()[1]
+    return [*cells, f"{int(total) / 10**decimals:.6g}", seconds]
 
 
 def main() -> None:
