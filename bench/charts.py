@@ -108,8 +108,8 @@ def panel(lines: dict[str, list[Point]], title: str, below: str) -> str:
 
 
 def picture(panels: list[str], label: str) -> str:
-    """An SVG of panels, two in a row."""
-    columns = min(2, len(panels))
+    """An SVG of panels, two in a row, or three where there are more than four."""
+    columns = 3 if len(panels) > 4 else min(2, len(panels))
     rows = math.ceil(len(panels) / columns)
     style = "text{font:11px sans-serif;fill:#333}.title{font-weight:bold;font-size:12px}.name{font-weight:bold}"
     style += ".grid{stroke:#ddd;stroke-width:1}"
