@@ -61,6 +61,7 @@ CHECKS = [
     Check("tools/check_c.py"),
     Check("tools/check_python.py"),
     Check("web/check.py", MEMORY),
+    Check("elsewhere/check.py", MEMORY),
     Check("blender/check.py", MEMORY),
     Check("tools/test_tools.py"),
     Check("tools/test_meshfiles.py"),
