@@ -448,13 +448,20 @@ def words_that_answer(program, files, room):
     return [(command.name, command.with_files(files)) for command in COMMANDS + MAKERS] + worked_rows(program, room)
 
 
+def large_rows(program, room):
+    """Words that take more than 20,000 vertices: a torus of 142 by 141."""
+    mesh = room / "large.off"
+    mesh.write_bytes(program.run(["gen", "torus", "142", "141"])[1])
+    return [("a large mesh", [word, str(mesh), "unit", "large"]) for word in ("basis", "cycle")]
+
+
 def allocation_runs(program, files, room):
     """Each allocation of each command fails once, and then it and all after it."""
     if without_cc():
         return []
     failing = Failing(program, room)
     once, onwards = Tally("each allocation fails in turn"), Tally("from each allocation on all fail")
-    for name, words in words_that_answer(program, files, room):
+    for name, words in words_that_answer(program, files, room) + large_rows(program, room):
         right = program.run(words)
         counted = failing.calls(words)[0]
         if not counted and name != "help":
