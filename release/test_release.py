@@ -121,12 +121,12 @@ class Page(unittest.TestCase):
 
 
 class Shell(unittest.TestCase):
-    def completed(self, *words):
+    def completed(self, *words, usage=USAGE):
         """What bash finds for the last word, in a folder with some files."""
         with tempfile.TemporaryDirectory() as room:
             for name in ("a.off", "b c.off", "notes.txt"):
                 pathlib.Path(room, name).touch()
-            script = completions.bash(USAGE, "surf") + 'COMP_WORDS=("$@") COMP_CWORD=$(($# - 1)); _surf; '
+            script = completions.bash(usage, "surf") + 'COMP_WORDS=("$@") COMP_CWORD=$(($# - 1)); _surf; '
             script += 'printf "%s\\n" "${COMPREPLY[@]}"'
             command = ["bash", "-c", script, "-", *words]
             ran = subprocess.run(command, cwd=room, capture_output=True, text=True, check=True)
@@ -138,6 +138,17 @@ class Shell(unittest.TestCase):
         self.assertEqual(self.completed("surf", "cut", "a.off", "unit", "0", ""), ["full", "through", "trim"])
         self.assertEqual(self.completed("surf", "cut", "a.off", "unit", "0", "t"), ["through", "trim"])
         self.assertEqual(self.completed("surf", "cut", "a.off", "unit", "0", "full", ""), [])
+
+    def test_a_word_behind_names(self):
+        rows = ("basis M L         a basis", "basis M L large   of a large mesh", "shortest M L W large  a walk")
+        more = "".join(f"       surf {row}\n" for row in rows)
+        usage = read_usage(HELP.replace("       surf --help", f"{more}       surf --help"))
+        for words in (["basis", "a.off", "unit"], ["shortest", "a.off", "unit", "notes.txt"]):
+            self.assertEqual(self.completed("surf", *words, "", usage=usage), ["large"])
+            self.assertEqual(self.completed("surf", *words, "la", usage=usage), ["large"])
+            self.assertEqual(self.completed("surf", *words, "t", usage=usage), [])
+            self.assertEqual(self.completed("surf", *words, "large", "", usage=usage), [])
+        self.assertEqual(self.completed("surf", "lengths", "a.off", "6", "", usage=usage), [])
 
     def test_files(self):
         self.assertEqual(self.completed("surf", "info", ""), ["a.off", "b c.off"])

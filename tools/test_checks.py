@@ -264,11 +264,12 @@ class PlainMethod(unittest.TestCase):
 
     def test_shortest_walks(self):
         cover = check_walks.Cover(self.TORUS)
-        self.assertEqual(cover.shortest([0, 1, 2, 0]), "shortest 3 0 2 1 0\n")
-        self.assertEqual(cover.shortest([0, 1, 2, 0, 3, 6, 0]), "shortest 3 0 8 4 0\n")
-        self.assertEqual(cover.shortest([0, 1, 0]), "shortest 0 0\n")
+        self.assertEqual(cover.shortest([0, 1, 2, 0], range(9)), "shortest 3 0 2 1 0\n")
+        self.assertEqual(cover.shortest([0, 1, 2, 0, 3, 6, 0], range(9)), "shortest 3 0 8 4 0\n")
+        self.assertEqual(cover.shortest([0, 1, 0], range(9)), "shortest 0 0\n")
+        self.assertEqual(cover.shortest([0, 1, 2, 0], [4, 5]), "shortest 3 4 5 3 4\n")
         plane = check_walks.Cover(check_bases.Plain(6, PLANE_FACES, [1] * 15))
-        self.assertEqual(plane.shortest([0, 2, 4, 0]), "shortest 3 0 3 1 0\n")
+        self.assertEqual(plane.shortest([0, 2, 4, 0], range(6)), "shortest 3 0 3 1 0\n")
 
     def test_sums_and_edges_turned_over(self):
         faces = check_bases.glued(TORUS_FACES, PLANE_FACES)
