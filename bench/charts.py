@@ -17,6 +17,7 @@ from pathlib import Path
 
 WIDTH, HEIGHT = 330, 270
 LEFT, RIGHT, TOP, BOTTOM = 52, 28, 30, 44
+LINE_HEIGHT = 14
 COLOURS = {
     "surf": "#1f5fa8",
     "plain": "#6aa0d8",
@@ -27,12 +28,12 @@ COLOURS = {
     "Gmsh": "#d68910",
 }
 TITLES = {
-    "info": "Is it a surface?",
+    "info": "The surface test",
     "dist": "Shortest ways from a vertex",
     "cut": "A disc",
     "cycle": "A shortest cycle",
     "loop": "A shortest loop at a vertex",
-    "loops": "All shortest loops at a vertex",
+    "loops": "Shortest loops at a vertex",
     "basis": "A homology basis",
 }
 Point = tuple[float, float]
@@ -95,16 +96,33 @@ def line(points: list[Point], x: Axis, y: Axis, colour: str) -> list[str]:
     return [f'<polyline points="{way}" fill="none" stroke="{colour}" stroke-width="2"/>', *dots]
 
 
+def names(lines: dict[str, list[Point]], x: Axis, y: Axis) -> list[str]:
+    """The names of the lines: at the upper left if no point lies there, else at the lower right."""
+    height = LINE_HEIGHT * len(lines)
+    places = [(x.at(across), y.at(up)) for points in lines.values() for across, up in points]
+    is_free = not any(across < LEFT + 70 and down < TOP + height + LINE_HEIGHT for across, down in places)
+    across, down, anchor = LEFT + 8, TOP + LINE_HEIGHT, "start"
+    if not is_free:
+        across, down, anchor = WIDTH - RIGHT - 8, HEIGHT - BOTTOM - 8 - height + LINE_HEIGHT, "end"
+    kind = f'class="name" text-anchor="{anchor}"'
+    return [
+        text(across, down + LINE_HEIGHT * place, name, f'{kind} style="fill:{colour_of(name)}"')
+        for place, name in enumerate(lines)
+    ]
+
+
+def colour_of(name: str) -> str:
+    return COLOURS.get(name, "#555555")
+
+
 def panel(lines: dict[str, list[Point]], title: str, below: str) -> str:
-    """One chart with a line for each program, and their names beside the last points."""
+    """One chart with a line for each program, and their names."""
     x = axis([across for points in lines.values() for across, _ in points], LEFT, WIDTH - RIGHT)
     y = axis([up for points in lines.values() for _, up in points], HEIGHT - BOTTOM, TOP)
     parts = frame(x, y, title, below)
-    for place, (name, points) in enumerate(lines.items()):
-        colour = COLOURS.get(name, "#555555")
-        parts += line(points, x, y, colour)
-        parts.append(text(LEFT + 8, TOP + 14 + 14 * place, name, f'style="fill:{colour}" class="name"'))
-    return "\n".join(parts)
+    for name, points in lines.items():
+        parts += line(points, x, y, colour_of(name))
+    return "\n".join(parts + names(lines, x, y))
 
 
 def picture(panels: list[str], label: str) -> str:
