@@ -47,8 +47,8 @@
 //! ```text
 //! IsPlacedSheetOff mesh lengths walks cocycles off s =
 //!     HasNoShortCut and NoneRises at each edge that is clear of off, s.least v ≤ v,
-//!     (i e : ℕ) → IsInRange s.sheet i → i < length walks → e < edge_count mesh → IsClear mesh off e →
-//!         is_crossed mesh (cocycles i) (s.sheet.label i) e ≡ true →
+//!     (i e : ℕ) → IsInRange s.sheet i → i < length walks → e < edge_count mesh →
+//!         IsClear mesh off e → is_crossed mesh (cocycles i) (s.sheet.label i) e ≡ true →
 //!         IsPastPlace mesh lengths s (place_of_walk mesh lengths (walk_at walks i)) e
 //!
 //! AreInOrder sheets off =
@@ -56,11 +56,13 @@
 //!         (r : ℕ) × (r < t) × Serves (sheets r).sheet i x
 //!
 //! law_of_sheet_order =
-//!     IsSurface mesh → ((t : ℕ) → IsPlacedSheetOff mesh lengths walks cocycles (off t) (sheets t)) →
+//!     IsSurface mesh →
+//!     ((t : ℕ) → IsPlacedSheetOff mesh lengths walks cocycles (off t) (sheets t)) →
 //!     AreInOrder sheets off → AreServed mesh walks cocycles (sheets_of sheets) →
 //!     (i : ℕ) → i < length walks → (walk : List ℕ) → IsClosed mesh walk →
 //!     is_odd_on mesh (cocycles i) walk ≡ true →
-//!     IsTrue (is_no_later (place_of_walk mesh lengths (walk_at walks i)) (place_of_walk mesh lengths walk))
+//!     IsTrue (is_no_later (place_of_walk mesh lengths (walk_at walks i))
+//!                         (place_of_walk mesh lengths walk))
 //! ```
 //!
 //! With empty sets off(t) this is the law that is proved there, `OddWalksComeNoSooner`. Where an edge

@@ -85,7 +85,7 @@ fn is_sheet<const N: usize>(
 
 /// Whether a loop at the base of a search shows that no closed walk of its class over a vertex
 /// within the margin comes sooner than a place.
-fn is_past<const N: usize>(found: &Loop<N>, margin: u64, place: (u64, u32)) -> bool {
+pub fn is_past<const N: usize>(found: &Loop<N>, margin: u64, place: (u64, u32)) -> bool {
     let is_longer = found.length > with_margin(place.0, margin);
     is_longer || margin == 0 && found.place() >= place
 }

@@ -33,7 +33,7 @@ pub enum Fault {
     LeavesOut,
     /// What is spared lies farther away than it may.
     WidensMargins,
-    /// Searches end a quarter too early.
+    /// Every other search ends a quarter too early.
     LowersBounds,
     /// Signatures are taken modulo one loop that isn't final.
     WidensQuotients,

@@ -71,7 +71,7 @@ impl<Q: Queue, const N: usize> Searches<Q, N> {
             }
             searches += 1;
             let is_scout = is_useful || searches % SCOUT_EVERY == 0;
-            let bound = self.bound_at(mattering(choice, cap, base), is_scout);
+            let bound = self.bound_of(searches, mattering(choice, cap, base), is_scout);
             let loops = self.loops_at(base.vertex, bound);
             choice.offer(&loops);
             let mut margin = 0;
@@ -99,13 +99,13 @@ impl<Q: Queue, const N: usize> Searches<Q, N> {
         self.fault == Fault::SkipsRounds || self.fault == Fault::LeavesOut && base % 3 == 1
     }
 
-    /// The length up to which a search finds all loops.
-    fn bound_at(&self, mattering: u64, is_scout: bool) -> u64 {
+    /// The length up to which a search finds all loops, by its number.
+    fn bound_of(&self, number: usize, mattering: u64, is_scout: bool) -> u64 {
         let mut bound = mattering;
         if bound != FAR && is_scout {
             bound += bound / 100 * SCOUT_SURPLUS;
         }
-        if bound != FAR && self.fault == Fault::LowersBounds {
+        if bound != FAR && self.fault == Fault::LowersBounds && number % 2 == 1 {
             bound -= bound / 4;
         }
         bound
