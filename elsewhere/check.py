@@ -88,6 +88,27 @@ def try_calls(command: list, program: pathlib.Path, room: pathlib.Path) -> str:
     return f"{len(found)} calls as the program's, of the statuses {', '.join(map(str, statuses))}"
 
 
+def try_little_memory(commands: list[list], program: pathlib.Path, room: pathlib.Path) -> str:
+    """Calls with less and less memory: each answers as the program, or says that memory ended, and lets the next call
+    be answered. Failed where one does otherwise, or where none of either kind is among them."""
+    calls = [(words, []) for words in ("gen torus 400 400", "--version", "try torus 60 60 3", "gen torus 9 9")]
+    due = [web.check_c().answer_of(program, folder_of(room, "due"), *call) for call in calls]
+    counts = {"as the program": 0, "without memory": 0}
+    for number, command in enumerate(commands):
+        for wanted, found in zip(due, answers(command, calls, room / f"memory{number}")):
+            if found not in (wanted, (11, b"memory\n")):
+                raise Failed(f"{command[:3]}: due {wanted[0]}, said {found[0]} {found[1][:80]!r}")
+            counts["as the program" if found == wanted else "without memory"] += 1
+    if not all(counts.values()):
+        raise Failed(f"with little memory: {counts}")
+    return f"with little memory {counts['without memory']} of {sum(counts.values())} calls say so, the others answer"
+
+
+def folder_of(room: pathlib.Path, name: str) -> pathlib.Path:
+    (room / name).mkdir(exist_ok=True)
+    return room / name
+
+
 def try_cases(command: list, room: pathlib.Path) -> str:
     """Runs the worked cases of tools/cases on a command. Which files are opened isn't looked at: the program reads a
     file when it is needed, and these commands read all first."""
@@ -176,6 +197,8 @@ def try_sdist(given, room: pathlib.Path):
     flags = ["-O2", "-std=c99", "-Wall", "-Wextra", "-Werror", f"-I{native.libraries.CRATE}"]
     ran(["cc", *flags, "-o", caller, HERE / "caller.c", library, f"-Wl,-rpath,{package}"])
     yield try_calls([caller], given.program, room)
+    limited = [["prlimit", f"--as={megabytes << 20}", caller] for megabytes in (30, 60, 120, 500, 2000, 6000)]
+    yield try_little_memory(limited, given.program, room)
     yield try_tests([own / "bin/python"], package, given.program)
 
 
@@ -185,7 +208,10 @@ def try_node(given, room: pathlib.Path):
         return
     with tarfile.open(only(given.built, "surfbasis-node-*.tgz")) as tar:
         tar.extractall(room, **({"filter": "data"} if hasattr(tarfile, "data_filter") else {}))
-    yield try_calls(["node", HERE / "caller.mjs", room / "package/index.js"], given.program, room)
+    caller = [HERE / "caller.mjs", room / "package/index.js"]
+    yield try_calls(["node", *caller], given.program, room)
+    limited = [["node", f"--wasm-max-mem-pages={pages}", *caller] for pages in (40, 100, 200, 1000)]
+    yield try_little_memory(limited, given.program, room)
     yield try_cases(["node", room / "package/command.js"], room)
     yield ran(["node", HERE / "test_node.mjs", room / "package/index.js", TOP / "meshes"]).strip()
 

@@ -147,7 +147,7 @@ export class Surface {
 
   /** A shortest homology basis (mod 2): closed walks with their lengths, and the length of all. */
   basis() {
-    return this.walks(this.askMeasured('basis 1 L'));
+    return this.walks(this.askMeasured('basis 1 L large'));
   }
 
   /** A shortest system of independent loops at a vertex. */
@@ -157,12 +157,12 @@ export class Surface {
 
   /** A shortest cycle that doesn't separate the surface, or null where each one separates it. */
   cycle() {
-    return this.walks(this.askMeasured('cycle 1 L')).walks[0] ?? null;
+    return this.walks(this.askMeasured('cycle 1 L large')).walks[0] ?? null;
   }
 
   /** A shortest closed walk homologous (mod 2) to one, whose vertices are given with the first at the end again. */
   shortest(walk) {
-    return this.walks(this.askMeasured('shortest 1 L 3', lineOf(walk))).walks[0];
+    return this.walks(this.askMeasured('shortest 1 L 3 large', lineOf(walk))).walks[0];
   }
 
   /** The surface cut into one disc, with the vertex of which each of its vertices is a copy, and as the program's OFF. */
