@@ -4,11 +4,11 @@
     fresh.py [--release FOLDER] [--suite SUITE] [--root FOLDER]
 
 Makes a root by debootstrap, or takes the one in --root where it is there already, puts the release (release/out) into
-it and runs release/fresh.sh there: the packages are installed, the main job, the manual page, the completions of
-three shells and the examples in C and Python are tried, the packages are taken away again, and then the tarball is
-unpacked and tried by the lines of its INSTALL.md. On a system older than the program asks for, the static program
-alone is tried. Where debootstrap isn't here, or who runs this isn't root, it is passed over with a word. The root
-sees nothing of this system but devices and processes of its own.
+it and runs release/fresh.sh there: the source distribution is built and called, the packages are installed, the main
+job, the manual page, the completions of three shells and the examples in C and Python are tried, the packages are
+taken away again, and then the tarball is unpacked and tried by the lines of its INSTALL.md. On a system older than
+the program asks for, the static program alone is tried. Where debootstrap isn't here, or who runs this isn't root, it
+is passed over with a word. The root sees nothing of this system but devices and processes of its own.
 """
 
 import argparse
@@ -22,6 +22,7 @@ import tempfile
 
 HERE = pathlib.Path(__file__).resolve().parent
 NEEDED = "bash-completion,fish,gcc,libc6-dev,man-db,pkg-config,python3,zsh"
+NEEDED += ",python3-numpy,python3-pip,python3-setuptools,python3-wheel"  # for the source distribution
 # A root that is older than the program has the static one tried, and needs nothing else.
 OLD = {"bullseye", "buster"}
 INSIDE = 'mount -t proc proc "$0/proc" && mount --rbind /dev "$0/dev" && exec chroot "$0" /usr/bin/env -i "${@}"'

@@ -137,10 +137,21 @@ tarball() {
   same "what the lines of INSTALL.md print" "2" "$(grep -c '^total 12262957$\|^loops 4$' /tmp/said)"
 }
 
+source_distribution() {
+  local torus7 found
+  found=$(find . -maxdepth 1 -name 'surfbasis-*.tar.gz')
+  [ -n "$found" ] || { echo "the release has no source distribution: it isn't tried"; return; }
+  well "pip install" pip install --quiet --no-index --no-deps --no-build-isolation --break-system-packages "$found"
+  torus7='surfbasis.Surface(7, [[a, (a + j) % 7, (a + k) % 7] for a in range(7) for j, k in ((1, 3), (3, 2))])'
+  same "a basis by the source distribution" "[3, 3] libsurf-c.so" "$(cd / && python3 -c "import surfbasis
+print([len(cycle) for cycle in $torus7.basis()], surfbasis._library.own_library().name)")"
+  well "pip uninstall" pip uninstall --quiet --yes --break-system-packages surfbasis
+}
+
 version=$(sed -n 's/.*  surf-\(.*\)-x86_64-linux.tar.gz$/\1/p' SHA256SUMS)
 well "sha256sum -c SHA256SUMS" sha256sum --quiet -c SHA256SUMS
 case $1 in
-  whole) packages; tarball ;;
+  whole) source_distribution; packages; tarball ;;
   old) unpacked; main_job bin/surf-static meshes
     same "the program on a system that is too old" "GLIBC_2" "$(bin/surf --version 2>&1 | grep -o GLIBC_2 | sort -u)" ;;
 esac
