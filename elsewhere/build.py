@@ -10,7 +10,6 @@ what it needs. The same commit gives the same bytes: files are dated to SOURCE_D
 
 import argparse
 import datetime
-import importlib.util
 import json
 import pathlib
 import shutil
@@ -23,14 +22,15 @@ import file_words
 import native
 import portable
 import wasm
+from folders import HERE, TOP, module_at
 
-HERE = pathlib.Path(__file__).resolve().parent
-TOP = HERE.parent
-import proof  # noqa: E402  (native.py has put release/ on the path)
-import trees  # noqa: E402
-from usage import version_of  # noqa: E402
+# native.py has put release/ on the path, and file_words.py tools/.
+import proof  # isort: skip
+import trees  # isort: skip
+from usage import version_of  # isort: skip
 
-TESTED = "Shortest homology bases, loops and cuts of closed surface meshes, by proved code whose translation is tested"
+TESTED = "Shortest homology bases (mod 2), loops and cuts of closed surface meshes, by proved code whose translation is "
+TESTED += "tested"
 WHEELS = {
     "linux-aarch64": ("Operating System :: POSIX :: Linux", "for Linux on aarch64. Its translation was tested by "
                       "emulation, and is not proved."),
@@ -43,16 +43,7 @@ WHEELS = {
 }  # fmt: skip
 FROM_C = ("Operating System :: OS Independent", "Programming Language :: C")
 
-
-def module_named(name: str, path: pathlib.Path):
-    """A module of another folder, where there is more than one of its name."""
-    spec = importlib.util.spec_from_file_location(name, path)
-    module = importlib.util.module_from_spec(spec)
-    spec.loader.exec_module(module)
-    return module
-
-
-packaging = module_named("build_package", TOP / "python/build.py")
+packaging = module_at("python/build.py")
 
 
 # ---- the wheels

@@ -28,17 +28,16 @@ import tarfile
 import tempfile
 import zipfile
 
-import build
 import native
+from folders import HERE, TOP, module_at
 
-HERE = pathlib.Path(__file__).resolve().parent
-TOP = HERE.parent
 EMULATOR = ["qemu-aarch64-static", "-L"]
 CROSS_ROOT = pathlib.Path("/usr/aarch64-linux-gnu")  # where Debian's cross compiler has its C library
 WINE = ("wine64", "wine", "/usr/lib/wine/wine64")
 
-sys.path.insert(0, str(TOP / "web"))
-web = build.module_named("check_web", TOP / "web/check.py")
+build = module_at("elsewhere/build.py")
+sys.path.insert(0, str(TOP / "web"))  # where web/check.py finds its own build.py
+web = module_at("web/check.py")
 
 
 class Failed(Exception):
@@ -190,7 +189,8 @@ def try_sdist(given, room: pathlib.Path):
     python, own = build.packaging.interpreter(), room / "own"
     ran([python, "-m", "venv", "--without-pip", "--system-site-packages", own])
     words = ["install", "--no-deps", "--no-index", "--no-build-isolation", "--ignore-installed"]
-    ran([python, "-m", "pip", "--python", own / "bin/python", *words, only(given.built, "surfbasis-*.tar.gz")], cwd=room)
+    words.append(only(given.built, "surfbasis-*.tar.gz"))
+    ran([python, "-m", "pip", "--python", own / "bin/python", *words], cwd=room)
     found = ran([own / "bin/python", "-c", "import surfbasis; print(surfbasis.__file__)"], cwd=room).strip()
     package = pathlib.Path(found).parent
     library, caller = package / "libsurf-c.so", room / "caller"
@@ -233,7 +233,7 @@ def tried(given) -> bool:
 
 
 def made_and_tried(part: str, given) -> bool:
-    """Whether a part can be made and passes its trials; it is passed over with a word where a tool for it isn't here."""
+    """Whether a part can be made and passes its trials. It is passed over with a word where a tool isn't here."""
     lack = build.lacking(part)
     if lack:
         print(f"{part} isn't made, since {lack}")

@@ -104,12 +104,14 @@ def read(text: str) -> Module:
         raise Stopped("there are more globals than the pointer of the stack")
     if "funcref" in text or "CALL_INDIRECT" in text:
         raise Stopped("there is a table of functions")
-    pages, most = map(int, part(r"wasm_rt_allocate_memory\(&instance->w2c_memory, (\d+), (\d+)\);", text, "memory").groups())
+    sizes = part(r"wasm_rt_allocate_memory\(&instance->w2c_memory, (\d+), (\d+)\);", text, "memory")
+    pages, most = map(int, sizes.groups())
     loads = r"LOAD_DATA\(instance->w2c_memory, (\d+)u, data_segment_data_(\w+), (\d+)\);"
     data = [(int(at), bytes_of(text, name, int(size))) for at, name, size in re.findall(loads, text)]
     if any(at + len(content) > pages * PAGE for at, content in data):
         raise Stopped("data doesn't fit into the first pages")
-    exports = {name: part(rf"^\w+ Z_surfZ_{name}\(.*?\) \{{\n  (?:return )?(w2c_\w+)\(", text, name)[1] for name in EXPORTS}
+    body = r"\(.*?\) \{\n  (?:return )?(w2c_\w+)\("
+    exports = {name: part(rf"^\w+ Z_surfZ_{name}{body}", text, name)[1] for name in EXPORTS}
     return Module(top, pages, most, data, functions_of(text), exports)
 
 

@@ -15,6 +15,7 @@ TOP = HERE.parent
 sys.path.insert(0, str(HERE))
 sys.dont_write_bytecode = True
 
+import build  # noqa: E402
 import file_words  # noqa: E402
 import native  # noqa: E402
 import portable  # noqa: E402
@@ -72,6 +73,33 @@ void Z_surfZ_surf_give(Z_surf_instance_t* instance, u64 a) {
   w2c_give(instance, a);
 }
 """
+
+
+class Words(unittest.TestCase):
+    """What wheels and the source distribution say of themselves."""
+
+    def said(self, system, told):
+        kind = build.packaging.Kind(build.TESTED, system, f"It comes with the program as a shared library, {told}")
+        with tempfile.TemporaryDirectory() as room:
+            build.packaging.describe(room, kind)
+            return [pathlib.Path(room, name).read_text() for name in ("README.md", "pyproject.toml")]
+
+    def test_no_translation_is_called_proved(self):
+        for name, (system, told) in build.WHEELS.items():
+            readme, settings = self.said((system,), told)
+            self.assertNotIn("Proved", readme)
+            self.assertNotIn("Proved", settings)
+            self.assertIn("is not proved", readme)
+            self.assertIn(f'classifiers = ["{system}", ', settings)
+            self.assertEqual("untried" in readme, name.startswith("macos"))
+
+    def test_each_target_has_words_and_the_name_that_the_package_looks_for(self):
+        self.assertEqual(set(build.WHEELS), set(native.TARGETS))
+        library = build.module_at("python/src/surfbasis/_library.py")
+        systems = {"linux": "linux", "windows": "win32", "macos": "darwin"}
+        for name, target in native.TARGETS.items():
+            machine = "AMD64" if target.system == "windows" else name.split("-")[1]
+            self.assertEqual(library.own_name(systems[target.system], machine), target.library)
 
 
 class InC(unittest.TestCase):

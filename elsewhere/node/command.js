@@ -44,7 +44,8 @@ const plain = (word) => (word === '' || /[ \t\r]/.test(word) ? '?' : word);
 /** What the program answers to the words of a command line. */
 function run(words) {
   const row = ROWS.map((it) => it.split(' ')).find((it) => fits(it, words));
-  const files = [], line = (named) => words.map((it, k) => (row && isFile(row[k], it) ? named(it) : plain(it))).join(' ');
+  const shown = (named) => (it, k) => (row && isFile(row[k], it) ? named(it) : plain(it));
+  const files = [], line = (named) => words.map(shown(named)).join(' ');
   const first = call(line(() => '4'));
   if (!row || first.status === USAGE) return first; // words of a wrong form are refused before any file is opened
   const text = line((name) => {

@@ -95,8 +95,8 @@ export class Surface {
 
   /** The surface of a file in OFF, as the program reads it. Edges are measured in so many decimals, or each is 1. */
   static fromFile(path, { lengths, decimals = 6 } = {}) {
-    const made = Object.create(Surface.prototype);
-    return Object.assign(made, { mesh: readFileSync(path), given: lengths, decimals: lengths === undefined ? decimals : 0 });
+    const told = { given: lengths, decimals: lengths === undefined ? decimals : 0 };
+    return Object.assign(Object.create(Surface.prototype), { mesh: readFileSync(path), ...told });
   }
 
   /** The text of an answer. `more` are the files that the words name behind the mesh and the lengths. */
@@ -165,7 +165,7 @@ export class Surface {
     return this.walks(this.askMeasured('shortest 1 L 3 large', lineOf(walk))).walks[0];
   }
 
-  /** The surface cut into one disc, with the vertex of which each of its vertices is a copy, and as the program's OFF. */
+  /** The surface cut into one disc, as the program's OFF, its faces, and of which vertex each of its own is a copy. */
   cut(base = 0, how = 'trim') {
     const text = this.askMeasured(`cut 1 L ${base} ${how}`), rows = decoder.decode(text).trim().split('\n');
     const [count, size] = rows[1].split(' ').map(Number), faces = rows.slice(2 + count, 2 + count + size);
