@@ -1,6 +1,8 @@
 #!/usr/bin/env python3
 """Tests of what makes the program for other systems: python3 elsewhere/test_elsewhere.py"""
 
+import contextlib
+import io
 import os
 import pathlib
 import shutil
@@ -166,7 +168,9 @@ class Native(unittest.TestCase):
     def test_a_target_without_its_linker(self):
         with mock.patch.object(shutil, "which", lambda name: "rt" if name == "rt" else None):
             self.assertEqual(native.lacking(native.TARGETS["linux-aarch64"]), "aarch64-linux-gnu-gcc isn't here")
-            self.assertEqual(native.made(), {})
+            with contextlib.redirect_stdout(io.StringIO()) as said:
+                self.assertEqual(native.made(), {})
+            self.assertEqual(said.getvalue().count("isn't made, since"), len(native.TARGETS))
 
 
 class Portable(unittest.TestCase):
