@@ -138,6 +138,18 @@ def unpacked(wheel: pathlib.Path, room: pathlib.Path) -> pathlib.Path:
     return room / "wheel/surfbasis"
 
 
+def emulated_python(root: pathlib.Path, room: pathlib.Path) -> pathlib.Path:
+    """A command that is the Python of a root for aarch64, to itself, too, so that tests can start it again."""
+    libraries = root / "usr/lib/aarch64-linux-gnu"
+    settings = {"PYTHONHOME": root / "usr", "LD_LIBRARY_PATH": f"{libraries}/blas:{libraries}/lapack"}
+    words = [word for name, value in settings.items() for word in ("-E", f"{name}={value}")]
+    words = [EMULATOR[0], "-0", "$0", *EMULATOR[1:], root, *words, root / "usr/bin/python3", "$@"]
+    script = room / "python3"
+    script.write_text("#!/bin/sh\nexec " + " ".join(f'"{word}"' for word in words) + "\n")
+    script.chmod(0o755)
+    return script
+
+
 def try_aarch64(given, room: pathlib.Path):
     package = unpacked(only(given.built, "*aarch64.whl"), room)
     if not shutil.which(EMULATOR[0]):
@@ -150,10 +162,7 @@ def try_aarch64(given, room: pathlib.Path):
     if not given.root:
         yield "the package's tests are not run, since no root with Python for aarch64 is named"
         return
-    settings = ["-E", f"LD_LIBRARY_PATH={given.root}/usr/lib/aarch64-linux-gnu/blas:"
-                f"{given.root}/usr/lib/aarch64-linux-gnu/lapack"]  # fmt: skip
-    python = [*EMULATOR, given.root, *settings, given.root / "usr/bin/python3"]
-    yield try_tests(python, package, given.program)
+    yield try_tests([emulated_python(given.root, room)], package, given.program)
 
 
 def try_windows(given, room: pathlib.Path):
