@@ -137,7 +137,8 @@ def link_windows(linked: str, made: pathlib.Path, to: pathlib.Path) -> None:
     names = made.with_suffix(".def")
     names.write_text(f"EXPORTS\n{libraries.EXPORTED}\n")
     same = ["-s", "-Wl,--no-insert-timestamp", "-Wl,--gc-sections", "-Wl,--dynamicbase", "-Wl,--nxcompat"]
-    ran([linked, "-shared", "-o", to, *same, made, names])
+    # Else the linker takes the place in memory that a library asks for from the path to which it is written.
+    ran([linked, "-shared", "-Wl,--disable-auto-image-base", "-o", to, *same, made, names])
     flags = ["-O2", "-std=c99", "-Wall", "-Wextra", "-Werror", "-municode", f"-I{libraries.CRATE}", f"-I{made.parent}"]
     (made.parent / "file_words.h").write_text(file_words.in_c())
     program = to.with_name("surf.exe")
