@@ -40,9 +40,9 @@
 //! it. So it has looked at all edges of the walk, and shows it as before. Therefore the ranges of
 //! the sheets of a round end no later from sheet to sheet.
 //!
-//! **This is the one law that isn't proved yet.** In the words of `surf_sheets`, for placed sheets
-//! s(0), s(1), .. and for each a set off(t) of vertices that it leaves out; an edge e is clear of a
-//! set if neither of its `ends` is in it:
+//! **This is the one law that isn't proved yet.** In the words of `surf_sheets`, let `sheets` be a
+//! list of placed sheets, s(t) the one with the number t, and off(t) the set of vertices that it
+//! leaves out. An edge is clear of a set if neither of its `ends` is in it.
 //!
 //! ```text
 //! IsPlacedSheetOff mesh lengths walks cocycles off s =
@@ -52,12 +52,12 @@
 //!         IsPastPlace mesh lengths s (place_of_walk mesh lengths (walk_at walks i)) e
 //!
 //! AreInOrder sheets off =
-//!     (t x i : ℕ) → off t x ≡ true → IsInRange (sheets t).sheet i →
-//!         (r : ℕ) × (r < t) × Serves (sheets r).sheet i x
+//!     (t x i : ℕ) → t < length sheets → off t x ≡ true → IsInRange (s t).sheet i →
+//!         (r : ℕ) × (r < t) × Serves (s r).sheet i x
 //!
 //! law_of_sheet_order =
 //!     IsSurface mesh →
-//!     ((t : ℕ) → IsPlacedSheetOff mesh lengths walks cocycles (off t) (sheets t)) →
+//!     ((t : ℕ) → t < length sheets → IsPlacedSheetOff mesh lengths walks cocycles (off t) (s t)) →
 //!     AreInOrder sheets off → AreServed mesh walks cocycles (sheets_of sheets) →
 //!     (i : ℕ) → i < length walks → (walk : List ℕ) → IsClosed mesh walk →
 //!     is_odd_on mesh (cocycles i) walk ≡ true →
