@@ -53,8 +53,8 @@ fn is_round(list: &[VertexId]) -> bool
     list[0] == list[list.len() - 1]
 }
 
-// Whether a list is a closed list of neighbours.
-fn is_closed(mesh: &HalfMesh, list: &[VertexId]) -> bool
+/// Whether a list is a closed list of neighbours.
+pub fn is_closed(mesh: &HalfMesh, list: &[VertexId]) -> bool
     ensures closed { Tells result (IsClosedList mesh.now list.now) }
 {
     if list.is_empty() {
@@ -76,7 +76,7 @@ pub(crate) fn first_open(mesh: &HalfMesh, cert: &BasisCert) -> Option<usize>
 }
 
 /// The edge of a step of a list of neighbours.
-pub(crate) fn step_edge(mesh: &HalfMesh, list: &[VertexId], i: usize) -> EdgeId
+pub fn step_edge(mesh: &HalfMesh, list: &[VertexId], i: usize) -> EdgeId
     requires closed { IsClosedList mesh.now list.now }
     requires step { i + 1 < length list.now }
     ensures edge { result ≡ edge_number mesh.now (slice_index_or (steps list.now) i (0, 0)) }
@@ -86,7 +86,7 @@ pub(crate) fn step_edge(mesh: &HalfMesh, list: &[VertexId], i: usize) -> EdgeId
 }
 
 /// How long a closed list of neighbours is.
-pub(crate) fn length_of(mesh: &HalfMesh, lengths: &Lengths, list: &[VertexId]) -> u128
+pub fn length_of(mesh: &HalfMesh, lengths: &Lengths, list: &[VertexId]) -> u128
     requires closed { IsClosedList mesh.now list.now }
     requires lengths { length lengths.now ≡ edge_count mesh.now }
     ensures length { result ≡ walk_length mesh.now lengths.now list.now }

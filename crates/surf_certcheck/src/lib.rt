@@ -31,5 +31,6 @@ mod sums;
 mod tops;
 
 pub use basis::check_basis;
+pub use cycles::{is_closed, length_of, step_edge};
 pub use loops::check_loops;
 pub use surf_treecheck::{CertFault, CertPart};

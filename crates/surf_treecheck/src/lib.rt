@@ -28,7 +28,7 @@ pub use dual::first_dual;
 pub use edges::{edge_between, edge_up, ends_inside, faces_inside};
 pub use fault::{CertFault, CertPart};
 pub use links::{Links, link_faces, step_up};
-pub use shape::{basis_shape, loop_shape, tree_from};
+pub use shape::{basis_shape, is_full_count, loop_shape, tree_from};
 pub use split::{Marks, first_split, mark_edges};
 pub use tree::{first_distance, first_parent, first_short_cut};
 pub use trees::trees_fault;

@@ -28,7 +28,7 @@ pub(crate) fn fits_faces(mesh: &HalfMesh, dual: &DualRows) -> bool
 }
 
 /// Whether a number is two less the characteristic.
-pub(crate) fn is_full_count(mesh: &HalfMesh, count: usize) -> bool
+pub fn is_full_count(mesh: &HalfMesh, count: usize) -> bool
     ensures full { Tells result (IsLoopCount mesh.now count) }
 {
     let most = u128::from(mesh.edges()) + 2;

@@ -1,0 +1,12 @@
+pub mod Cocycles
+pub mod Faults
+pub mod Fits
+pub mod Judged
+pub mod Labels
+pub mod Parts
+pub mod Rule
+pub mod Searches
+pub mod Serving
+pub mod Tables
+pub mod Used
+pub mod Valid
