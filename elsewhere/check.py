@@ -18,6 +18,7 @@ trial is passed over: qemu-aarch64-static, Wine, node.
 """
 
 import argparse
+import contextlib
 import os
 import pathlib
 import shlex
@@ -165,6 +166,26 @@ def try_aarch64(given, room: pathlib.Path):
     yield try_tests([emulated_python(given.root, room)], package, given.program)
 
 
+@contextlib.contextmanager
+def kept_ready(wine: str) -> Iterator[None]:
+    """Keeps a command of Wine waiting, so that its server, which takes seconds to start, serves all runs. It is there
+    before they begin: a server that one of them started would keep the run's output open."""
+    pipe = subprocess.PIPE
+    waiting = subprocess.Popen([wine, "cmd"], stdin=pipe, stdout=pipe, stderr=subprocess.DEVNULL, text=True)
+    try:
+        print("echo ready", file=waiting.stdin, flush=True)
+        next((line for line in waiting.stdout if "ready" in line), None)
+        yield
+    finally:
+        waiting.stdin.close()
+        try:
+            waiting.wait(timeout=60)
+        except subprocess.TimeoutExpired:
+            waiting.kill()
+            waiting.wait()
+        waiting.stdout.close()
+
+
 def try_windows(given, room: pathlib.Path):
     package = unpacked(only(given.built, "*win_amd64.whl"), room)
     wine = next(filter(None, map(shutil.which, WINE)), None)
@@ -180,8 +201,9 @@ def try_windows(given, room: pathlib.Path):
         raise Failed("the wheel and the zip have other libraries")
     flags = ["-O2", "-std=c99", "-Wall", "-Wextra", "-Werror", f"-I{folder}"]
     ran([f"{native.MINGW}-gcc", *flags, "-o", caller, HERE / "caller.c", library])
-    yield try_calls([wine, caller], given.program, room)
-    yield try_cases([wine, folder / "surf.exe"], room)
+    with kept_ready(wine):
+        yield try_calls([wine, caller], given.program, room)
+        yield try_cases([wine, folder / "surf.exe"], room)
 
 
 def try_macos(given, room: pathlib.Path):
