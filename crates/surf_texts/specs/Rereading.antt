@@ -40,15 +40,15 @@ pub record AreWritable (walks : List Loop) : Type 0 where
   pub count : length walks < 2 ^ 64
   pub total : sum (map (λ w. w.size) walks) < 2 ^ 64
 
--- The text of loops, or of the cycles of a basis, has their lengths and walks, one by one: so no two lists of walks with
--- their lengths have one text.
+-- The text of loops, or of the cycles of a basis, has their lengths and walks, one by one, where all its numbers have 64
+-- bits: so no two such lists of walks with their lengths have one text.
 abbrev pub WalksAreReread : Type 0
 WalksAreReread =
     (walks : List Loop) → AreWritable walks →
     (walks_in 2 (measured_text "loops " "loop " walks) ≡ map (λ w. (w.size, w.walk)) walks)
     × (walks_in 2 (measured_text "cycles " "cycle " walks) ≡ map (λ w. (w.size, w.walk)) walks)
 
--- The line of a cycle, or of a shortest walk, has its length and its walk.
+-- The line of a cycle, or of a shortest walk, has its length and its walk, where its numbers have 64 bits.
 abbrev pub OneWalkIsReread : Type 0
 OneWalkIsReread =
     (size : ℕ) (walk : List ℕ) → IsWritable size walk →
@@ -66,7 +66,7 @@ abbrev pub distance_on : TextLine → ℕ × (ℕ × Option ℕ)
 distance_on line = let tokens = tokens_of line.bytes in
     (number_in (get_or tokens 0 []), (number_in (get_or tokens 1 []), parent_on (get_or tokens 2 [])))
 
--- The text of distances has each vertex in order, its distance and its parent.
+-- The text of distances has each vertex in order, its distance and its parent, where these numbers have 64 bits.
 abbrev pub DistancesAreReread : Type 0
 DistancesAreReread =
     (vertices : ℕ) (tree : Tree) → vertices < 2 ^ 64 →
