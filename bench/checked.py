@@ -3,7 +3,7 @@
 
     bench/checked.py [--program PLAIN] [--surfaces N] [--seed S]
 
-The surfaces are those of `tools/check_bases.py`: of both kinds, with equal lengths, few, many, or tiered. On each of them
+The surfaces are those of `tools/oracles/check_bases.py`: of both kinds, with equal lengths, few, many, or tiered. On each of them
 `checked-basis` has to write the bytes of `basis`, shown by the searches of the finder, and with each fault of the
 finder the same bytes, whatever shows them. At the end stands how often what showed the answer, for each fault. A
 fault that the check never met fails the run. The program is built by `cargo build --release --offline` in
@@ -18,9 +18,8 @@ from collections import Counter
 from collections.abc import Iterable
 from pathlib import Path
 
-TOP = Path(__file__).resolve().parent.parent
-sys.path.insert(0, str(TOP / "tools"))
-import check_bases  # noqa: E402
+from tools import TOP
+from tools.oracles import check_bases
 
 FAULTS = ("LeavesOut", "WidensMargins", "LowersBounds", "WidensQuotients", "SkipsRounds")
 BY_SEARCHES = "shown by Searches"

@@ -16,8 +16,7 @@ from collections.abc import Iterator
 from dataclasses import dataclass
 from pathlib import Path
 
-import hard
-import speed
+from bench import hard, speed
 
 LENGTHS = [hard.UNIT, hard.SCATTERED, hard.TIES, hard.HEAVY, hard.NEAR]
 

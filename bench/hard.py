@@ -25,9 +25,7 @@ import tempfile
 from dataclasses import dataclass
 from pathlib import Path
 
-import lengths
-import meshes
-import speed
+from bench import lengths, meshes, speed
 
 # Less than this at the first size tells nothing of growth.
 TELLING_SECONDS = 0.02

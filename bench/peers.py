@@ -30,8 +30,7 @@ from collections.abc import Iterator
 from dataclasses import asdict, dataclass, fields
 from pathlib import Path
 
-import hard
-import speed
+from bench import hard, speed
 
 PEERS = Path(__file__).resolve().parent / "peers"
 

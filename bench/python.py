@@ -5,19 +5,16 @@
 
 On a torus in space, of 316 by 317 vertices where no other is named. Milliseconds are of one processor (user and system
 of this process), the least of the repeats. The package has to be importable, with numpy: put it together by
-`python/build.py`, or install the wheel.
+`python/make_wheel.py`, or install the wheel.
 """
 
 import argparse
-import sys
 import time
-from pathlib import Path
 
 import surfbasis
 from surfbasis import _callers, _texts
 
-sys.path.insert(0, str(Path(__file__).resolve().parent.parent / "python/tests"))
-from support import torus  # noqa: E402
+from python.tests.support import torus
 
 
 class Timed:

@@ -14,15 +14,12 @@ import argparse
 import csv
 import hashlib
 import subprocess
-import sys
 import tempfile
 from collections.abc import Iterator
 from pathlib import Path
 
-import speed
-
-sys.path.insert(0, str(Path(__file__).resolve().parent.parent / "tools"))
-import survey_meshes  # noqa: E402
+from bench import speed
+from tools.oracles import survey_meshes
 
 HEAD = ["file", "vertices", "genus", "total length", "seconds"]
 

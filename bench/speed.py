@@ -28,7 +28,8 @@ import sys
 import tempfile
 from pathlib import Path
 
-ROOT = Path(__file__).resolve().parent.parent
+from tools import TOP
+
 TORI = [f"torus {side} {side}" for side in (100, 300, 700)]
 LINEAR = [*TORI, "shuffled 700 700"]
 FAR = ["torus 40 40", "torus 100 100", "torus 100 200", "chain 8 30 30", "chain 64 4 4"]
@@ -60,7 +61,7 @@ ALONE = [
 # The tables, each with what stands beside it: a name, and the words of `bench/plain` for its method.
 TABLES = [(BASIC, ("plain", [])), (BASES, ("sketch", ["--sketch"])), (ALONE, None)]
 # What follows with --plain: the scripts of the other tables of docs/speed.md, with their words.
-OTHERS = [["hard.py", "--plain", "--bases"], ["hard.py", "--plain", "--large"]]
+OTHERS = [["bench.hard", "--plain", "--bases"], ["bench.hard", "--plain", "--large"]]
 
 
 class Refused(Exception):
@@ -69,13 +70,13 @@ class Refused(Exception):
 
 def built():
     """The program of this repository, built."""
-    subprocess.run(["rt", "run", "--", "--version"], cwd=ROOT / "crates" / "surf", check=True, stdout=sys.stderr)
-    return ROOT / "crates" / "surf" / "out" / "surf"
+    subprocess.run(["rt", "run", "--", "--version"], cwd=TOP / "crates" / "surf", check=True, stdout=sys.stderr)
+    return TOP / "crates" / "surf" / "out" / "surf"
 
 
 def plain_built():
     """The program of `bench/plain`, built."""
-    folder = ROOT / "bench" / "plain"
+    folder = TOP / "bench" / "plain"
     subprocess.run(["cargo", "build", "--release", "--offline"], cwd=folder, check=True, stdout=sys.stderr)
     return folder / "target" / "release" / "plain"
 
@@ -314,9 +315,8 @@ def main():
             ours = [(method[0], [str(plain), *method[1]])] if plain and method else []
             print_table(cases, ours + options.beside, inputs, work, options)
     if plain and not options.commands:
-        for script, *words in OTHERS:
-            script = Path(__file__).with_name(script)
-            subprocess.run([sys.executable, str(script), *words, "--surf", str(surf)], check=True)
+        for words in OTHERS:
+            subprocess.run([sys.executable, "-m", *words, "--surf", str(surf)], cwd=TOP, check=True)
 
 
 if __name__ == "__main__":

@@ -9,10 +9,7 @@ from collections import Counter
 from dataclasses import fields
 from pathlib import Path
 
-import charts
-import meshes
-import peers
-import speed
+from bench import charts, meshes, peers, speed
 
 SVG = "{http://www.w3.org/2000/svg}"
 

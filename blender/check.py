@@ -19,20 +19,20 @@ import subprocess
 import sys
 import tempfile
 
-import build
+from blender import make_addon
+from tools import TOP
 
-HERE = pathlib.Path(__file__).resolve().parent
-TOP = HERE.parent
+HERE = TOP / "blender"
 
 
 def zips(room, library):
     """The add-on for each way to ask surf: over the program, and over the library where it can be had."""
-    yield "program", build.make(room / "program", None)
+    yield "program", make_addon.make(room / "program", None)
     missing = [tool for tool in ("cc", "rt", "strip", "nm") if not shutil.which(tool)]
     if missing or not library.is_file():
         print(f"the add-on isn't tried over the library, since {[*missing, library.name][0]} isn't here")
     else:
-        yield "library", build.make(room / "library", library)
+        yield "library", make_addon.make(room / "library", library)
 
 
 def plain_settings():

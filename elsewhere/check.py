@@ -1,5 +1,5 @@
 #!/usr/bin/env python3
-"""Tries what build.py made, against the program.
+"""Tries what make_parts.py made, against the program.
 
     check.py                            makes and tries all parts for which the tools are here
     check.py PART --built FOLDER        tries a part that stands in a folder
@@ -8,10 +8,10 @@
 
     linux-aarch64       by emulation: calls of the library, and the package's tests by the Python of --root, which has
                         python3-numpy (aarch64_root.py makes such a folder)
-    windows-x86_64      by Wine: calls of the library, and the worked cases of tools/cases on surf.exe
+    windows-x86_64      by Wine: calls of the library, and the worked cases of tools/oracles/cases on surf.exe
     macos-..            looks at the file alone, since nothing here runs it: it is untried
     sdist               installed in a fresh virtual environment: calls of the library, and the package's tests
-    node                calls, and the worked cases of tools/cases on the command
+    node                calls, and the worked cases of tools/oracles/cases on the command
 
 The calls are those that web/check.py makes of the page's module. What a trial needs, and isn't here, is said, and that
 trial is passed over: qemu-aarch64-static, Wine, node.
@@ -30,16 +30,17 @@ import tempfile
 import zipfile
 from collections.abc import Iterator
 
-import native
-from folders import HERE, TOP, module_at
+
+from elsewhere import make_parts, native
+from tools import TOP
+from tools.oracles import check_c
+from web import check as web
 
 EMULATOR = ["qemu-aarch64-static", "-L"]
 CROSS_ROOT = pathlib.Path("/usr/aarch64-linux-gnu")  # where Debian's cross compiler has its C library
 WINE = ("wine64", "wine", "/usr/lib/wine/wine64")
 
-build = module_at("elsewhere/build.py")
-sys.path.insert(0, str(TOP / "web"))  # where web/check.py finds its own build.py
-web = module_at("web/check.py")
+HERE = TOP / "elsewhere"
 
 
 class Failed(Exception):
@@ -93,7 +94,7 @@ def try_little_memory(commands: list[list], program: pathlib.Path, room: pathlib
     """Calls with less and less memory: each answers as the program, or says that memory ended, and lets the next call
     be answered. Failed where one does otherwise, or where none of either kind is among them."""
     calls = [(words, []) for words in ("gen torus 400 400", "--version", "try torus 60 60 3", "gen torus 9 9")]
-    due = [web.check_c().answer_of(program, folder_of(room, "due"), *call) for call in calls]
+    due = [check_c.answer_of(program, folder_of(room, "due"), *call) for call in calls]
     counts = {"as the program": 0, "without memory": 0}
     for number, command in enumerate(commands):
         for wanted, found in zip(due, answers(command, calls, room / f"memory{number}")):
@@ -111,13 +112,13 @@ def folder_of(room: pathlib.Path, name: str) -> pathlib.Path:
 
 
 def try_cases(command: list, room: pathlib.Path) -> str:
-    """Runs the worked cases of tools/cases on a command. Which files are opened isn't looked at: the program reads a
+    """Runs the worked cases of tools/oracles/cases on a command. Which files are opened isn't looked at: the program reads a
     file when it is needed, and these commands read all first."""
     script = room / "surf"
     script.write_text(f'#!/bin/sh\nexec {shlex.join(map(str, command))} "$@"\n')
     script.chmod(0o755)
-    sheets = sorted((TOP / "tools/cases").glob("*.cases"))
-    words = [sys.executable, TOP / "tools/run_cases.py", "--unwatched", "--program", script, *sheets]
+    sheets = sorted((TOP / "tools/oracles/cases").glob("*.cases"))
+    words = [sys.executable, TOP / "tools", "run_cases", "--unwatched", "--program", script, *sheets]
     return f"worked cases: {ran(words).strip().splitlines()[-1]}"
 
 
@@ -218,7 +219,7 @@ def try_macos(given, room: pathlib.Path):
 
 
 def try_sdist(given, room: pathlib.Path):
-    python, own = build.packaging.interpreter(), room / "own"
+    python, own = make_parts.packaging.interpreter(), room / "own"
     ran([python, "-m", "venv", "--without-pip", "--system-site-packages", own])
     words = ["install", "--no-deps", "--no-index", "--no-build-isolation", "--ignore-installed"]
     words.append(only(given.built, "surfbasis-*.tar.gz"))
@@ -266,14 +267,14 @@ def tried(given) -> bool:
 
 def made_and_tried(part: str, given) -> bool:
     """Whether a part can be made and passes its trials. It is passed over with a word where a tool isn't here."""
-    lack = build.lacking(part)
+    lack = make_parts.lacking(part)
     if lack:
         print(f"{part} isn't made, since {lack}")
         return True
     with tempfile.TemporaryDirectory() as room:
         try:
-            build.make(part, pathlib.Path(room))
-        except (build.proof.Refused, build.portable.Stopped) as fault:
+            make_parts.make(part, pathlib.Path(room))
+        except (make_parts.proof.Refused, make_parts.portable.Stopped) as fault:
             print(f"{part}: {fault}")
             return False
         return tried(argparse.Namespace(part=part, built=pathlib.Path(room), program=given.program, root=given.root))
@@ -283,7 +284,7 @@ def main() -> int:
     parser = argparse.ArgumentParser(description=__doc__, formatter_class=argparse.RawDescriptionHelpFormatter)
     parser.add_argument("part", nargs="?", choices=TRIALS)
     parser.add_argument("--built", type=pathlib.Path)
-    parser.add_argument("--program", type=pathlib.Path, default=build.proof.PROGRAM)
+    parser.add_argument("--program", type=pathlib.Path, default=make_parts.proof.PROGRAM)
     parser.add_argument("--root", type=pathlib.Path, default=os.environ.get("SURF_AARCH64_ROOT"))
     given = parser.parse_args()
     if bool(given.part) != bool(given.built):

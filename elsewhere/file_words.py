@@ -1,12 +1,9 @@
 """Which words of a call name files: the rows of `--help`, for the command in C and for node's."""
 
 import json
-import pathlib
-import sys
 
-sys.path.append(str(pathlib.Path(__file__).resolve().parent.parent / "tools"))
-import commands  # noqa: E402
-from usage import is_file, is_name  # noqa: E402
+from tools.oracles import commands
+from tools.users.usage import is_file, is_name
 
 NOTE = "Made of the rows of `surf --help`. A word of one or two letters is a name that the user gives, of a file if it "
 NOTE += "has a capital."

@@ -15,14 +15,13 @@ import sys
 import tempfile
 from typing import NamedTuple
 
-HERE = pathlib.Path(__file__).resolve().parent
-TOP = HERE.parent
+from elsewhere import file_words
+from release import libraries, modules
+from release.proof import Refused, ran
+from tools import TOP
+
+HERE = TOP / "elsewhere"
 OUT = HERE / "out"
-sys.path.insert(0, str(TOP / "release"))
-import file_words  # noqa: E402
-import libraries  # noqa: E402
-import modules  # noqa: E402
-from proof import Refused, ran  # noqa: E402
 
 OPTIMIZED = ["--no-default-config", "-no-canonical-prefixes", "-ffunction-sections", *modules.NARROW, "-O3"]
 LEAST_STACK = 8 << 20  # of the program for Windows, as Linux gives it

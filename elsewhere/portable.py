@@ -1,5 +1,5 @@
 #!/usr/bin/env python3
-"""Makes surfbasis.c, the program as one function in C99, of the module that web/build.py makes.
+"""Makes surfbasis.c, the program as one function in C99, of the module that web/make_page.py makes.
 
     portable.py SURF.WASM --to FOLDER
 
@@ -17,9 +17,9 @@ import sys
 import tempfile
 from typing import NamedTuple
 
-HERE = pathlib.Path(__file__).resolve().parent
-TOP = HERE.parent
-SOURCES = HERE / "c"
+from tools import TOP
+
+SOURCES = TOP / "elsewhere/c"
 HEADER = TOP / "crates/surf_c/surf.h"
 PAGE = 65536
 EXPORTS = {"surf_call": "CALL", "surf_take": "TAKE", "surf_give": "GIVE"}

@@ -1,27 +1,23 @@
 #!/usr/bin/env python3
-"""Tests of what makes the program for other systems: python3 elsewhere/test_elsewhere.py"""
+"""Tests of what makes the program for other systems: python3 -m elsewhere.test_elsewhere"""
 
 import contextlib
 import io
 import os
 import pathlib
+import runpy
 import shutil
 import subprocess
-import sys
 import tempfile
 import unittest
 from unittest import mock
 
-HERE = pathlib.Path(__file__).resolve().parent
-TOP = HERE.parent
-sys.path.insert(0, str(HERE))
-sys.dont_write_bytecode = True
+from elsewhere import file_words, make_parts, native, portable
+from elsewhere.native import Refused, modules
+from tools import TOP
 
-import build  # noqa: E402
-import file_words  # noqa: E402
-import native  # noqa: E402
-import portable  # noqa: E402
-from native import Refused, modules  # noqa: E402
+HERE = TOP / "elsewhere"
+
 
 COMPILER = shutil.which(os.environ.get("CC", "cc"))
 FLAGS = ["-O2", "-std=c99", "-Wall", "-Wextra", "-Werror", f"-I{TOP / 'crates/surf_c'}", f"-I{HERE / 'c'}"]
@@ -81,13 +77,13 @@ class Words(unittest.TestCase):
     """What wheels and the source distribution say of themselves."""
 
     def said(self, system, told):
-        kind = build.packaging.Kind(build.TESTED, system, f"It comes with the program as a shared library, {told}")
+        kind = make_parts.packaging.Kind(make_parts.TESTED, system, f"It comes with the program as a shared library, {told}")
         with tempfile.TemporaryDirectory() as room:
-            build.packaging.describe(room, kind)
+            make_parts.packaging.describe(room, kind)
             return [pathlib.Path(room, name).read_text() for name in ("README.md", "pyproject.toml")]
 
     def test_no_translation_is_called_proved(self):
-        for name, (system, told) in build.WHEELS.items():
+        for name, (system, told) in make_parts.WHEELS.items():
             readme, settings = self.said((system,), told)
             self.assertNotIn("Proved", readme)
             self.assertNotIn("Proved", settings)
@@ -96,12 +92,12 @@ class Words(unittest.TestCase):
             self.assertEqual("untried" in readme, name.startswith("macos"))
 
     def test_each_target_has_words_and_the_name_that_the_package_looks_for(self):
-        self.assertEqual(set(build.WHEELS), set(native.TARGETS))
-        library = build.module_at("python/src/surfbasis/_library.py")
+        self.assertEqual(set(make_parts.WHEELS), set(native.TARGETS))
+        library = runpy.run_path(str(TOP / "python/src/surfbasis/_library.py"))
         systems = {"linux": "linux", "windows": "win32", "macos": "darwin"}
         for name, target in native.TARGETS.items():
             machine = "AMD64" if target.system == "windows" else name.split("-")[1]
-            self.assertEqual(library.own_name(systems[target.system], machine), target.library)
+            self.assertEqual(library["own_name"](systems[target.system], machine), target.library)
 
 
 class InC(unittest.TestCase):

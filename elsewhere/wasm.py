@@ -1,17 +1,18 @@
 #!/usr/bin/env python3
-"""Makes elsewhere/out/surf.wasm by web/build.py, where it isn't there or is older than what it is made of."""
+"""Makes elsewhere/out/surf.wasm by web/make_page.py, where it isn't there or is older than what it is made of."""
 
 import pathlib
 import shutil
 import sys
 import tempfile
 
-import native
-from native import TOP, libraries
-from proof import Refused, ran
+from elsewhere import native
+from release import libraries
+from release.proof import Refused, ran
+from tools import TOP
 
 MADE = native.OUT / "surf.wasm"
-SOURCES = [TOP / "web" / name for name in ("build.py", "heap.c", "wide.c")]
+SOURCES = [TOP / "web" / name for name in ("make_page.py", "heap.c", "wide.c")]
 
 
 def lacking() -> str | None:
@@ -25,7 +26,7 @@ def made() -> pathlib.Path:
     newest = max(path.stat().st_mtime for path in [libraries.MODULE, *SOURCES])
     if not MADE.exists() or newest > MADE.stat().st_mtime:
         with tempfile.TemporaryDirectory() as room:
-            ran([sys.executable, TOP / "web/build.py", "--to", room])
+            ran([sys.executable, "-m", "web.make_page", "--to", room], cwd=TOP)
             MADE.parent.mkdir(exist_ok=True)
             shutil.copy(pathlib.Path(room, MADE.name), MADE)
     return MADE

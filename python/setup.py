@@ -14,7 +14,7 @@ class WithLibrary(Distribution):
 
 
 class Tagged(bdist_wheel):
-    """A wheel whose tag `build.py` tells."""
+    """A wheel whose tag `make_wheel.py` tells."""
 
     def get_tag(self):
         return "py3", "none", os.environ.get("SURFBASIS_PLATFORM") or super().get_tag()[2]

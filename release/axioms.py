@@ -18,11 +18,10 @@ import tempfile
 import textwrap
 from typing import NamedTuple
 
-import libraries
-from proof import TOP, Refused, kit_folder, ran
-
-sys.path.append(str(TOP / "tools"))
-from crate_graph import read_crates  # noqa: E402
+from release import libraries
+from release.proof import Refused, kit_folder, ran
+from tools import TOP
+from tools.house.crate_graph import read_crates
 
 PAGE = TOP / "docs/proved.md"
 BEGIN, END = "## Contracts of C functions\n", "\n## "

@@ -23,15 +23,10 @@ import sys
 import tempfile
 from typing import NamedTuple
 
-import libraries
-import packages
-import proof
-import trees
-import trial
-import versions
-from pages import pages
+from release import libraries, packages, proof, trees, trial, versions
+from release.pages import pages
+from tools import TOP
 
-TOP = proof.TOP
 OUT = TOP / "release/out"
 
 
@@ -46,11 +41,11 @@ class Other(NamedTuple):
 
 
 OTHERS = [
-    Other("the wheel", ["python/build.py", "--to"], "*.whl"),
-    Other("the page for browsers", ["web/build.py", "--to"], "surf.html", ["web/check.py", "--built"]),
-    Other("the add-on for Blender", ["blender/build.py", "--to"], "*.zip"),
+    Other("the wheel", ["python.make_wheel", "--to"], "*.whl"),
+    Other("the page for browsers", ["web.make_page", "--to"], "surf.html", ["web.check", "--built"]),
+    Other("the add-on for Blender", ["blender.make_addon", "--to"], "*.zip"),
 ]
-# For other systems: what elsewhere/build.py makes by these names.
+# For other systems: what elsewhere.make_parts makes by these names.
 ELSEWHERE = {
     "linux-aarch64": "the wheel for Linux on aarch64",
     "windows-x86_64": "the wheel and the program for Windows",
@@ -60,7 +55,7 @@ ELSEWHERE = {
     "node": "the package for node",
 }
 OTHERS += [
-    Other(what, ["elsewhere/build.py", part, "--to"], "surf*", ["elsewhere/check.py", part, "--built"])
+    Other(what, ["elsewhere.make_parts", part, "--to"], "surf*", ["elsewhere.check", part, "--built"])
     for part, what in ELSEWHERE.items()
 ]
 # How these say that a tool is missing which is no part of the set-up.
@@ -116,16 +111,21 @@ def make_packages(parts: packages.Parts, gate: proof.Gate, out: pathlib.Path) ->
     return made
 
 
+def is_here(module: str) -> bool:
+    """Whether the repository has this module, such as `web.check`."""
+    return (TOP / module.replace(".", "/")).with_suffix(".py").is_file()
+
+
 def make_other(other: Other, out: pathlib.Path, time: int) -> None:
     """Makes it and tries it. It is passed over with a word where the repository hasn't it, or a tool isn't here."""
-    if not (TOP / other.make[0]).exists():
+    if not is_here(other.make[0]):
         print(f"{other.what} isn't in the release: there is no {other.make[0]}")
         return
     environment = {**os.environ, "SOURCE_DATE_EPOCH": str(time)}
     with tempfile.TemporaryDirectory() as room:
         for words in filter(None, (other.make, other.trial)):
-            command = [sys.executable, TOP / words[0], *words[1:], room]
-            done = subprocess.run(command, env=environment, capture_output=True, text=True, check=False)
+            command = [sys.executable, "-m", *words, room]
+            done = subprocess.run(command, cwd=TOP, env=environment, capture_output=True, text=True, check=False)
             said = (done.stdout + done.stderr).strip()
             if done.returncode and words is other.make and re.search(LACKING, said, re.M):
                 print(f"{other.what} isn't in the release: {said}")
@@ -142,9 +142,9 @@ def make_other(other: Other, out: pathlib.Path, time: int) -> None:
 
 def make_shared() -> None:
     """Makes what several of the others have inside: the libraries for other systems, and the module of WebAssembly."""
-    for name in ("native.py", "wasm.py"):
-        if (TOP / "elsewhere" / name).exists():
-            print(proof.ran([sys.executable, TOP / "elsewhere" / name]), end="")
+    for module in ("elsewhere.native", "elsewhere.wasm"):
+        if is_here(module):
+            print(proof.ran([sys.executable, "-m", module], cwd=TOP), end="")
 
 
 def write_sums(out: pathlib.Path) -> None:

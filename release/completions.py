@@ -1,6 +1,6 @@
 """Completions for bash, zsh and fish, from the rows of `--help`. Each asks at every word which rows still fit."""
 
-from usage import OPTIONS, Usage, is_file, meaning_of, names_of
+from tools.users.usage import OPTIONS, Usage, is_file, meaning_of, names_of
 
 
 def quoted(text: str) -> str:

@@ -98,7 +98,7 @@ packages() {
   main_job surfbasis $meshes
   same "surf by its folder" "surf $version" "$(PATH=/usr/lib/surfbasis/bin:$PATH; surf --version)"
   same "the plain checker" "valid basis 12262957" \
-    "$(python3 /usr/share/surfbasis/tools/plain_check.py check $meshes/eight.off $meshes/eight.len /tmp/eight.cert)"
+    "$(python3 /usr/share/surfbasis/tools plain_check check $meshes/eight.off $meshes/eight.len /tmp/eight.cert)"
   manual surfbasis
   completions surfbasis
   torus7=$meshes/torus7.off ring=$meshes/ring.off
@@ -120,10 +120,10 @@ unpacked() {
 }
 
 tools() {
-  python3 tools/to_off.py meshes/eight.off > /tmp/again.off
+  python3 tools to_off meshes/eight.off > /tmp/again.off
   same "a mesh by to_off.py" "genus 2" "$(bin/surf info /tmp/again.off | tail -n 1)"
   bin/surf basis meshes/eight.off meshes/eight.len > /tmp/basis.txt
-  python3 tools/show.py meshes/eight.off /tmp/basis.txt --png /tmp/basis.png
+  python3 tools show meshes/eight.off /tmp/basis.txt --png /tmp/basis.png
   same "a picture by show.py" "PNG" "$(head -c 4 /tmp/basis.png | tail -c 3)"
 }
 

@@ -17,10 +17,9 @@ import shutil
 import sys
 import tempfile
 
-from proof import PROGRAM, TOP, Refused, kit_folder, newest_source, ran
-
-sys.path.append(str(TOP / "tools"))
-from crate_graph import below, read_crates  # noqa: E402
+from release.proof import PROGRAM, Refused, kit_folder, newest_source, ran
+from tools import TOP
+from tools.house.crate_graph import below, read_crates
 
 NAME = "surf_c"
 CRATE = TOP / "crates" / NAME

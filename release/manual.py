@@ -3,7 +3,7 @@
 import re
 import textwrap
 
-from usage import Usage, is_name
+from tools.users.usage import Usage, is_name
 
 SIGNS = {"\\": "\\e", "−": "\\[mi]", "·": "\\[pc]", "χ": "\\[u03C7]", "^": "\\[ha]", "~": "\\[ti]", "`": "\\[ga]"}
 TITLES = {"Statuses": "EXIT STATUS", "Lines on refusals": "DIAGNOSTICS"}

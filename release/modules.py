@@ -7,8 +7,8 @@ import pathlib
 import re
 import tempfile
 
-import libraries
-from proof import Refused, kit_folder, ran
+from release import libraries
+from release.proof import Refused, kit_folder, ran
 
 # What the module may ask for beside LLVM's own functions, and what its attributes may say of the processor.
 ASKED = {"rattle_alloc", "rattle_realloc", "rattle_dealloc", "memcpy", "memmove", "memset", "memcmp"}

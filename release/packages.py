@@ -7,23 +7,20 @@ name `surfbasis`, and /usr/lib/surfbasis/bin has the command as `surf`, for thos
 import email.utils
 import pathlib
 import re
-import sys
 import textwrap
 from typing import NamedTuple
 
-import trees
-from libraries import needed_glibc
-from proof import TOP
-
-sys.path.append(str(TOP / "web"))
-import bundle  # noqa: E402
+from release import trees
+from release.libraries import needed_glibc
+from tools import TOP
+from web import bundle
 
 NAME = "surfbasis"
 TRIPLET = "x86_64-linux-gnu"
 MAINTAINER = "surf maintainers <surf@example.invalid>"
 # The tools for users of meshes, for sceptics and for whoever tries a program again; with them goes what they import.
-TOOLS = ["to_off", "drop_handles", "show", "unfold", "plain_check"]
-TRIALS = ["run_cases"]
+TOOLS = ["users.to_off", "users.drop_handles", "users.show", "users.unfold", "oracles.plain_check"]
+TRIALS = ["oracles.run_cases"]
 LINK = re.compile(r"\]\(([^)#:]+)(?:#[^)]*)?\)|^\[[^\]]+\]: ([^\s:]+)$", re.M)
 NO_LICENCE = "No licence has been chosen so far. Until one is, nobody but the authors may pass this on."
 
@@ -51,23 +48,32 @@ class Parts(NamedTuple):
 
 
 def tools_with(names: list[str]) -> list[pathlib.Path]:
-    """The files of these tools, and of the modules and packages beside them that they import."""
-    found, todo = set(), list(names)
+    """The files of these tools, of what they import of the package `tools`, and of the packages that these stand in."""
+    found, todo = set(), [f"tools.{name}" for name in ("__main__", *names)]
     while todo:
-        name = todo.pop()
-        module, package = TOP / "tools" / f"{name}.py", TOP / "tools" / name
-        files = {module} if module.is_file() else set(package.glob("**/*.py"))
-        for path in files - found:
+        place = TOP / todo.pop().replace(".", "/")
+        files = {place.with_suffix(".py"), *(folder / "__init__.py" for folder in place.parents)}
+        if place.parent.parent == TOP / "tools":  # a package in one of the folders, whose modules need each other
+            files |= set(place.glob("*.py"))
+        for path in {path for path in files - found if path.is_relative_to(TOP / "tools") and path.is_file()}:
             found.add(path)
-            todo += re.findall(r"^\s*(?:from|import) (\w+)", path.read_text(), re.M)
+            todo += imported(path.read_text())
     return sorted(found)
+
+
+def imported(text: str) -> list[str]:
+    """The modules of the package `tools` that a script imports, by their whole names."""
+    found = []
+    for module, names in re.findall(r"^\s*from (tools[\w.]*) import ([\w, ]+)", text, re.M):
+        found += [module, *(f"{module}.{name.strip()}" for name in names.split(","))]
+    return found
 
 
 def add_tools(tree: trees.Tree, place: str, names: list[str]) -> None:
     for path in tools_with(names):
         mode = 0o755 if path.read_bytes().startswith(b"#!") else 0o644
         tree.add(f"{place}/{path.relative_to(TOP / 'tools')}", path, mode)
-    tree.add(f"{place}/viewfiles/viewer.html", bundle.viewer().encode(), 0o644)
+    tree.add(f"{place}/users/viewfiles/viewer.html", bundle.viewer().encode(), 0o644)
 
 
 def documents() -> list[pathlib.Path]:
@@ -114,7 +120,7 @@ def tarball_tree(parts: Parts) -> trees.Tree:
     tree.add("INSTALL.md", TOP / "release/INSTALL.md")
     add_documents(tree, "")
     add_tools(tree, "tools", TOOLS + TRIALS)
-    for folder in ("meshes", "examples", "tools/cases"):
+    for folder in ("meshes", "examples", "tools/oracles/cases"):
         tree.add_folder(folder, TOP / folder)
     return tree
 

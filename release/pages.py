@@ -23,12 +23,9 @@ import subprocess
 import sys
 import tempfile
 
-TOP = pathlib.Path(__file__).resolve().parent.parent
-sys.path.append(str(TOP / "tools"))
-
-import completions  # noqa: E402
-import manual  # noqa: E402
-from usage import Usage, read_usage, said, version_of  # noqa: E402
+from release import completions, manual
+from tools import TOP
+from tools.users.usage import Usage, read_usage, said, version_of
 
 FORMATS = TOP / "docs" / "formats.md"
 

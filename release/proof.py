@@ -14,7 +14,8 @@ import sys
 import textwrap
 from typing import NamedTuple
 
-TOP = pathlib.Path(__file__).resolve().parent.parent
+from tools import TOP
+
 PROGRAM = TOP / "crates/surf/out/surf"
 
 

@@ -1,32 +1,19 @@
 #!/usr/bin/env python3
-"""Tests of what makes a release, on stand-ins: python3 release/test_release.py"""
+"""Tests of what makes a release, on stand-ins: python3 -m release.test_release"""
 
 import os
 import pathlib
 import shutil
 import subprocess
-import sys
 import tarfile
 import tempfile
 import unittest
 from unittest import mock
 
-HERE = pathlib.Path(__file__).resolve().parent
-sys.path[:0] = [str(HERE), str(HERE.parent / "tools")]
-sys.dont_write_bytecode = True
-
-import axioms  # noqa: E402
-import check_sessions  # noqa: E402
-import completions  # noqa: E402
-import fresh  # noqa: E402
-import libraries  # noqa: E402
-import manual  # noqa: E402
-import packages  # noqa: E402
-import pages  # noqa: E402
-import proof  # noqa: E402
-import trees  # noqa: E402
-import versions  # noqa: E402
-from usage import Row, meaning_of, names_of, read_usage  # noqa: E402
+from release import axioms, completions, fresh, libraries, manual, packages, pages, proof, trees, versions
+from tools import TOP
+from tools.oracles import check_sessions
+from tools.users.usage import Row, meaning_of, names_of, read_usage
 
 HELP = """\
 surf: loops of meshes
@@ -378,7 +365,7 @@ class Archives(unittest.TestCase):
 
     @unittest.skipUnless(shutil.which("dpkg-deb"), "dpkg-deb isn't here")
     def test_a_package(self):
-        parts = packages.Parts("1.2.3", 0, HERE, {})
+        parts = packages.Parts("1.2.3", 0, TOP / "release", {})
         fields = packages.control("it", "misc", parts, "short\nlong text", Multi_Arch="same")
         with tempfile.TemporaryDirectory() as room:
             made = [pathlib.Path(room, name) for name in ("a.deb", "b.deb")]
@@ -408,13 +395,13 @@ class Contents(unittest.TestCase):
             documents.remove(pathlib.Path("INSTALL.md"))
             for path in documents:
                 text = (root / path).read_text()
-                lost = [check_sessions.dead_links(place / path, text) for place in (root, HERE.parent)]
+                lost = [check_sessions.dead_links(place / path, text) for place in (root, TOP)]
                 self.assertEqual(*lost, path)
         self.assertGreater(len(documents), 10)
 
     def test_tools_with_what_they_import(self):
-        names = {path.name for path in packages.tools_with(["show"])}
-        self.assertLessEqual({"show.py", "off.py"}, names)
+        names = {path.name for path in packages.tools_with(["users.show"])}
+        self.assertLessEqual({"show.py", "off.py", "template.py", "__main__.py"}, names)
         self.assertNotIn("hostile.py", names)
 
     def test_lines_to_install(self):

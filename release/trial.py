@@ -7,16 +7,14 @@ import sys
 import tarfile
 import tempfile
 
-from proof import TOP, Refused, ran
-
-sys.path.insert(0, str(TOP / "tools"))
-import check_c  # noqa: E402
+from release.proof import Refused, ran
+from tools.oracles import check_c
 
 
 def try_cases(root: pathlib.Path) -> None:
     """The worked cases of the tarball, by its own tool, on each program."""
     for program in ("bin/surf", "bin/surf-static"):
-        said = ran([sys.executable, root / "tools/run_cases.py", "--program", root / program])
+        said = ran([sys.executable, root / "tools", "run_cases", "--program", root / program])
         print(f"{program}: {said.strip()}")
 
 

@@ -1,5 +1,5 @@
 #!/usr/bin/env python3
-"""Tries whether the list of changes begins with the version of the program: python3 release/versions.py [PROGRAM]
+"""Tries whether the list of changes begins with the version of the program: python3 -m release.versions [PROGRAM]
 
 The version has one home, what `surf --version` prints. Packages, the wheel and the manual page take it from there,
 and CHANGELOG.md has it as its first heading. Between releases the heading `Next` may stand before it, with what has
@@ -11,12 +11,9 @@ import pathlib
 import re
 import sys
 
-from proof import PROGRAM, TOP, Refused
-
-sys.path.append(str(TOP / "tools"))
-
-from usage import version_of  # noqa: E402
-
+from release.proof import PROGRAM, Refused
+from tools import TOP
+from tools.users.usage import version_of
 
 NEXT = "Next"
 

@@ -8,12 +8,12 @@ import pathlib
 import re
 import struct
 import subprocess
-import sys
 import time
 
-from chrome import Chrome
+from tools import TOP
+from tools.users.meshfiles import mend, read_mesh
+from web.chrome import Chrome
 
-TOP = pathlib.Path(__file__).resolve().parent.parent
 MESHES = TOP / "meshes"
 ENDS = "/^(Done|No answer|Stopped|Click|Vertex|The page)|chosen/"
 
@@ -349,9 +349,6 @@ def red_on_the_mesh(page: Page, checks: Checks, room: pathlib.Path):
 
 def total_by_tool(program: Program, path: pathlib.Path, count: int) -> float:
     """The length of so many of the first cycles of a basis, where the tool in Python joins the holes."""
-    sys.path.append(str(MESHES.parent / "tools"))
-    from meshfiles import mend, read_mesh
-
     mended = mend(read_mesh(path), holes="hub")
     rows = program.said("basis 1 2 large", mended.off_text(), mended.lengths_text(6)).decode().splitlines()[2:]
     return sum(int(row.split()[1]) for row in rows[:count]) / 10**6

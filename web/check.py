@@ -2,7 +2,7 @@
 """Tries the page and what it stands on: the modules in JavaScript and in C, surf.wasm, and surf.html in a browser; and
 files that show an answer, in a browser.
 
-    check.py                            builds both by build.py, where its tools are here
+    check.py                            builds both by make_page.py, where its tools are here
     check.py --built FOLDER             takes surf.wasm and surf.html in this folder
     check.py --program PATH             the program to compare with, crates/surf/out/surf without it
     check.py --pictures FOLDER          also writes pictures of the page, and of files that show an answer
@@ -12,7 +12,6 @@ program, Chromium, WebKit with its driver. None of these belongs to the set-up b
 """
 
 import argparse
-import importlib.util
 import itertools
 import json
 import math
@@ -24,22 +23,16 @@ import subprocess
 import sys
 import tempfile
 
-import browser
-import bundle
-import chrome
-import shown
-import webkit
+from tools import TOP
+from tools.oracles import check_c, check_handles
+from tools.oracles.check_bases import surface
+from tools.users import drop_handles
+from tools.users.meshfiles import Soup, mend
+from tools.users.meshfiles.handles import Shape, Wanted, take_off
+from tools.users.meshfiles.writing import mesh_text, points_text
+from web import browser, bundle, chrome, shown, webkit
 
-WEB = pathlib.Path(__file__).resolve().parent
-TOP = WEB.parent
-
-
-def check_c():
-    """The tool that compares calls of the library with the program: its calls serve here, too."""
-    spec = importlib.util.spec_from_file_location("check_c", TOP / "tools/check_c.py")
-    module = importlib.util.module_from_spec(spec)
-    spec.loader.exec_module(module)
-    return module
+WEB = TOP / "web"
 
 
 def said(words, **how) -> tuple[int, str]:
@@ -101,7 +94,7 @@ def built(given) -> pathlib.Path | None:
         print(f"web: surf.wasm and the page in a browser are not tried, since {lack} isn't here")
         return None
     folder = given.room / "built"
-    status, text = said([sys.executable, WEB / "build.py", "--to", folder])
+    status, text = said([sys.executable, "-m", "web.make_page", "--to", folder], cwd=TOP)
     if status:
         print(text)
         raise SystemExit(1)
@@ -111,7 +104,7 @@ def built(given) -> pathlib.Path | None:
 
 def all_calls():
     """Words with their files: those that are tried from C, and each command on each sample mesh."""
-    yield from check_c().calls()
+    yield from check_c.calls()
     walk, vertices = b"0 1 2 0\n", b"0 3 5\n"
     for path in sorted((TOP / "meshes").glob("*.off")):
         mesh, lengths = path.read_bytes(), path.with_suffix(".len")
@@ -157,7 +150,7 @@ def chained(calls, answers):
 
 def compared(calls, answers, program, room) -> int:
     """The number of calls whose status or bytes aren't the program's."""
-    answer_of, folder, wrong = check_c().answer_of, room / "of-program", 0
+    answer_of, folder, wrong = check_c.answer_of, room / "of-program", 0
     folder.mkdir(exist_ok=True)
     for (words, files), found in zip(calls, answers):
         due = answer_of(program, folder, words, files)
@@ -169,10 +162,6 @@ def compared(calls, answers, program, room) -> int:
 
 def taken_by_tool(program, folder, number, chance):
     """A small surface in files, how the page's modules are to try it, and what the tool in Python makes of it."""
-    import check_handles
-    import drop_handles
-    from meshfiles.handles import Shape, Wanted, take_off
-
     count, faces, known = check_handles.some_surface(chance)
     limit = chance.choice([2, 3, 5, 10, 30, 100, 1000, math.inf])
     shape = Shape(count, [(float(v), 0.0, 0.0) for v in range(count)], faces)
@@ -186,7 +175,6 @@ def taken_by_tool(program, folder, number, chance):
 
 def handles_against_tool(wasm, program, room) -> int:
     """The number of small surfaces that the page's modules leave otherwise without handles than the tool in Python."""
-    sys.path.append(str(TOP / "tools"))
     chance, folder = random.Random(3), room / "handles"
     folder.mkdir()
     trials, due = zip(*(taken_by_tool(program, folder, number, chance) for number in range(200)))
@@ -210,8 +198,6 @@ def is_same_surgery(found, shape, known, taken) -> bool:
 
 def some_faulty_mesh(chance):
     """The points and faces of a small mesh with holes, often of two parts."""
-    from check_bases import surface
-
     count, faces = surface(chance)
     points = [(v, v * v % 97, v % 7) for v in range(count)]
     again = []
@@ -229,9 +215,6 @@ def parted(points, faces):
 
 def mended_by_tool(folder, number, chance):
     """A small mesh with faults in a file, how the page is to mend it, and what the tool in Python makes of it."""
-    from meshfiles import Soup, mend
-    from meshfiles.writing import mesh_text, points_text
-
     points, faces = some_faulty_mesh(chance)
     is_parted, holes = chance.random() < 0.4, chance.choice(["close", "hub", "hub"])
     if is_parted:
@@ -247,7 +230,6 @@ def mended_by_tool(folder, number, chance):
 def mending_against_tool(wasm, room) -> int:
     """The number of small meshes that the page's modules mend otherwise than the tool in Python. Where more than two
     faces meet at an edge, or two edges have the same ends, the tool does more than the page."""
-    sys.path.append(str(TOP / "tools"))
     chance, folder = random.Random(4), room / "mending"
     folder.mkdir()
     made = [mended_by_tool(folder, number, chance) for number in range(300)]

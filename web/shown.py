@@ -1,4 +1,4 @@
-"""Files that show an answer, as tools/viewfiles makes them, opened from disk in a browser and used as a user does.
+"""Files that show an answer, as tools/users/viewfiles makes them, opened from disk in a browser and used as a user does.
 
 What they show is known by how it is made: a ring of squares with the walks round it and through it.
 """
@@ -13,14 +13,11 @@ import subprocess
 import sys
 import zlib
 
-import chrome
-import webkit
-from browser import Checks
-
-TOP = pathlib.Path(__file__).resolve().parent.parent
-sys.path.append(str(TOP / "tools"))
-import viewfiles  # noqa: E402
-from viewfiles import Scene, Values, edge_set, walk  # noqa: E402
+from tools import TOP
+from tools.users import viewfiles
+from tools.users.viewfiles import Scene, Values, edge_set, walk
+from web import chrome, webkit
+from web.browser import Checks
 
 ROUNDS, STEPS = 24, 12
 RED, BLUE = (193, 18, 31), (18, 87, 168)  # of the first two rows in the list, by a light theme
@@ -269,7 +266,7 @@ def tried(page, room: pathlib.Path, checks: Checks):
 
 
 def pictures_of(program: pathlib.Path, room: pathlib.Path, folder: pathlib.Path):
-    """Pictures of files that tools/show.py makes of the program's answers on eight.off."""
+    """Pictures of files that tools/users/show.py makes of the program's answers on eight.off."""
     eight = TOP / "meshes/eight.off"
 
     def answer(name: str, *words) -> pathlib.Path:
@@ -282,7 +279,7 @@ def pictures_of(program: pathlib.Path, room: pathlib.Path, folder: pathlib.Path)
         for name, words in {"python": ("basis", ), "python-cut": ("cut", 353, "trim")}.items():
             found, path = answer(name, words[0], eight, lengths, *words[1:]), room / f"{name}.html"
             how = ["--html", path, "--decimals", "6"]
-            subprocess.run([sys.executable, TOP / "tools/show.py", eight, found, *how], check=True)
+            subprocess.run([sys.executable, TOP / "tools/users/show.py", eight, found, *how], check=True)
             page.go(f"file://{path}")
             page.until(READY)
             page.js("new Promise(done => setTimeout(() => requestAnimationFrame(() => requestAnimationFrame(done)), 500))")

@@ -16,7 +16,7 @@ import time
 import urllib.error
 import urllib.request
 
-import browser
+from web import browser
 
 TOOLS = ("WebKitWebDriver", "Xvfb")
 ELEMENT = "element-6066-11e4-a52e-4f735466cecf"  # the key of a reference to an element, as the standard has it

@@ -3,7 +3,7 @@
 bl_info = {
     "name": "Surf: seams into one disc, shortest loops",
     "author": "surf",
-    "version": (0, 0, 0),  # build.py puts that of surf here
+    "version": (0, 0, 0),  # make_addon.py puts that of surf here
     "blender": (2, 93, 0),
     "location": "Object > Surf, and in edit mode Mesh > Surf",
     "description": "Marks seams that open each part into one disc; selects shortest loops; removes small handles",

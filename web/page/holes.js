@@ -1,5 +1,5 @@
 // The holes of a surface: each is closed by a face, or all are joined by a sphere, the hub, so that loops round them
-// count. Rims, faces and lengths are those of tools/meshfiles.
+// count. Rims, faces and lengths are those of tools/users/meshfiles.
 import { Faces, Lines, Table } from './lines.js';
 import { largest, matesOf, split } from './mend.js';
 

@@ -1,4 +1,4 @@
-// Reads a scene as tools/viewfiles packs it: a mesh, and an answer on it.
+// Reads a scene as tools/users/viewfiles packs it: a mesh, and an answer on it.
 
 /** The tables of a scene, one behind the other: of each the lowest bytes of all numbers first, the highest last. */
 class Tables {

@@ -1,7 +1,7 @@
 //! The program over files and streams in memory: reads and writes that fail or move few bytes, and
 //! diagnostics that nobody hears.
 //!
-//! That each command answers what was wanted is tried on the built program, by `tools/cases`.
+//! That each command answers what was wanted is tried on the built program, by `tools/oracles/cases`.
 #![tactic(auto)]
 
 #[cfg(test)]

@@ -1,0 +1,1 @@
+"""The add-on for Blender: what makes it, and its trials."""

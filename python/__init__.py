@@ -1,0 +1,1 @@
+"""The package `surfbasis`: what makes its wheel; its sources and tests stand below."""

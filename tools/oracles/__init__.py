@@ -1,0 +1,1 @@
+"""What judges answers and shares nothing with the program: searches by brute force, worked cases, trials."""

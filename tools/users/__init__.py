@@ -1,0 +1,1 @@
+"""For those who have meshes: readers, the mender, cuts of small handles, pictures."""
