@@ -3,10 +3,10 @@
 
     bench/checked.py [--program PLAIN] [--surfaces N] [--seed S]
 
-The surfaces are those of `tools/oracles/check_bases.py`: of both kinds, with equal lengths, few, many, or tiered. On each of them
-`checked-basis` has to write the bytes of `basis`, shown by the searches of the finder, and with each fault of the
-finder the same bytes, whatever shows them. At the end stands how often what showed the answer, for each fault. A
-fault that the check never met fails the run. The program is built by `cargo build --release --offline` in
+The surfaces are those of `tools/oracles/check_bases.py`: of both kinds, with equal lengths, few, many, or tiered. On
+each of them `checked-basis` has to write the bytes of `basis`, shown by the searches of the finder, and with each
+fault of the finder the same bytes, whatever shows them. At the end stands how often what showed the answer, for each
+fault. A fault that the check never met fails the run. The program is built by `cargo build --release --offline` in
 `bench/plain`.
 """
 import argparse

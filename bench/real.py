@@ -6,9 +6,10 @@
 The package is libcgal-demo unless another is named; it is installed, or with --root unpacked as `survey_meshes.py`
 takes it. Each file is taken in by `to_off.py --close`; files of equal bytes count once, and surfaces without a loop
 and what is no surface are left out. Lengths are those of `surf lengths` in millionths of the file's unit, or where an
-edge doesn't fit in these, in thousandths or in billionths; the total is in the file's unit. A surface without a
-genus has its number of crosscaps. Seconds are of one processor, the least of the repeats. A basis above 20,000 vertices wants the word `large`; where the program doesn't
-know it, the row says so. `--save` writes the rows as a table with tabs too.
+edge doesn't fit in these, in thousandths or in billionths; the total is in the file's unit. A surface without a genus
+has its number of crosscaps. Seconds are of one processor, the least of the repeats. A basis above 20,000 vertices
+wants the word `large`; where the program doesn't know it, the row says so. `--save` writes the rows as a table with
+tabs too.
 """
 import argparse
 import csv

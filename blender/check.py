@@ -7,8 +7,8 @@
     check.py --pictures FOLDER          also draws the pictures of docs/blender.md there
 
 The add-on is tried over the program, and over the library where release/libraries.py has made it. Blender is no part
-of the set-up: where it or its numpy isn't here that is said, and nothing is tried. It runs with the system's PATH, since
-a Blender of the system looks for the folders of its Python beside the first `python3` on PATH.
+of the set-up: where it or its numpy isn't here that is said, and nothing is tried. It runs with the system's PATH,
+since a Blender of the system looks for the folders of its Python beside the first `python3` on PATH.
 """
 
 import argparse

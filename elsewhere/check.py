@@ -112,8 +112,8 @@ def folder_of(room: pathlib.Path, name: str) -> pathlib.Path:
 
 
 def try_cases(command: list, room: pathlib.Path) -> str:
-    """Runs the worked cases of tools/oracles/cases on a command. Which files are opened isn't looked at: the program reads a
-    file when it is needed, and these commands read all first."""
+    """Runs the worked cases of tools/oracles/cases on a command. Which files are opened isn't looked at: the program
+    reads a file when it is needed, and these commands read all first."""
     script = room / "surf"
     script.write_text(f'#!/bin/sh\nexec {shlex.join(map(str, command))} "$@"\n')
     script.chmod(0o755)

@@ -25,7 +25,8 @@ from tools import TOP
 from tools.users.usage import version_of
 
 HERE = TOP / "elsewhere"
-TESTED = "Shortest homology bases (mod 2), loops and cuts of closed surface meshes, by proved code whose translation is "
+TESTED = ("Shortest homology bases (mod 2), loops and cuts of closed surface meshes, by proved code whose translation "
+          "is ")
 TESTED += "tested"
 WHEELS = {
     "linux-aarch64": ("Operating System :: POSIX :: Linux", "for Linux on aarch64. Its translation was tested by "

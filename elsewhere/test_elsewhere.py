@@ -77,7 +77,8 @@ class Words(unittest.TestCase):
     """What wheels and the source distribution say of themselves."""
 
     def said(self, system, told):
-        kind = make_parts.packaging.Kind(make_parts.TESTED, system, f"It comes with the program as a shared library, {told}")
+        kind = make_parts.packaging.Kind(make_parts.TESTED, system,
+                                         f"It comes with the program as a shared library, {told}")
         with tempfile.TemporaryDirectory() as room:
             make_parts.packaging.describe(room, kind)
             return [pathlib.Path(room, name).read_text() for name in ("README.md", "pyproject.toml")]

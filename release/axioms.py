@@ -4,10 +4,10 @@
     axioms.py --write    proves both again, over what the gate left, and writes the list: some minutes
     axioms.py --check    ends with 1 where the list can't be right
 
-The compiler takes the contract of a C function as it is written. Asked by `--list-axioms`, it says which of these contracts
-a proof reached, called or not. `--check` proves nothing: each listed function has to be one that the kit declares, and those
-that the program and the library ask for have to be listed. Which ones the program asks for, and what the compiler said when
-`libraries.py` made the library, have to be as in the list.
+The compiler takes the contract of a C function as it is written. Asked by `--list-axioms`, it says which of these
+contracts a proof reached, called or not. `--check` proves nothing: each listed function has to be one that the kit
+declares, and those that the program and the library ask for have to be listed. Which ones the program asks for, and
+what the compiler said when `libraries.py` made the library, have to be as in the list.
 """
 
 import pathlib
@@ -25,7 +25,8 @@ from tools.house.crate_graph import read_crates
 
 PAGE = TOP / "docs/proved.md"
 BEGIN, END = "## Contracts of C functions\n", "\n## "
-TEXT = """The kit declares {count} functions in C, whose contracts the compiler takes as they are written. A proof rests on
+TEXT = """\
+The kit declares {count} functions in C, whose contracts the compiler takes as they are written. A proof rests on
 those that it reaches, called or not, and on no other: that of the program on {program}, that of the library for C on
 {library}. The program asks for those in bold. `release/axioms.py` made the list.
 """
@@ -62,7 +63,8 @@ def declared(kit: pathlib.Path) -> set[str]:
     """The names of all functions in C that the kit's crates declare."""
     found = set()
     for path in sorted(path for name in DECLARING for path in (kit / "rattle" / name / "src").rglob("*.rt")):
-        for block in re.findall(r'^( *)unsafe extern "C" \{\n(.*?)^\1\}', path.read_text(encoding="utf-8"), re.M | re.S):
+        for block in re.findall(r'^( *)unsafe extern "C" \{\n(.*?)^\1\}', path.read_text(encoding="utf-8"),
+                                re.M | re.S):
             found |= set(re.findall(r"\bfn (\w+)", re.sub(r"//[^\n]*", "", block[1])))
     return found
 
@@ -86,7 +88,8 @@ def section(reached: Reached, count: int) -> str:
     """The part of the page that has the list, of so many declared functions."""
     text = TEXT.format(count=count, program=len(reached.program), library=len(reached.library))
     homes = sorted({name.rpartition("::")[0] for name in reached.program | reached.library})
-    rows = [f"| `{home}` | {cell(reached.program, home, reached.called)} | {cell(reached.library, home, set())} |\n" for home in homes]
+    rows = [f"| `{home}` | {cell(reached.program, home, reached.called)} | {cell(reached.library, home, set())} |\n"
+            for home in homes]
     return f"{BEGIN}\n{textwrap.fill(text, 118, break_on_hyphens=False)}\n\n{HEAD}{''.join(rows)}"
 
 
@@ -142,7 +145,8 @@ def faults(page: str, kit: pathlib.Path, built: Built):
 def prove(crates: dict[str, list[str]]) -> Reached:
     """Proves the program and the library over what the gate left, for what the compiler says of functions in C."""
     kit, said = kit_folder(), []
-    for name, source, kind in (("surf", "src/main.rt", []), (libraries.NAME, "src/lib.rt", ["--crate-type", "staticlib"])):
+    for name, source, kind in (("surf", "src/main.rt", []),
+                               (libraries.NAME, "src/lib.rt", ["--crate-type", "staticlib"])):
         with tempfile.TemporaryDirectory() as room:
             words = [*libraries.build_words(kit, name, source, crates), *kind, "--toolchain", kit / "toolchain"]
             said.append(ran([*words, "-o", pathlib.Path(room) / "made"], cwd=TOP / "crates" / name))

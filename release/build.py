@@ -82,7 +82,8 @@ def notes(built: pathlib.Path) -> dict[str, str]:
         f"release ({system}, whose licence is the LGPL). It asks for no library, so it runs on older systems. The "
         "gate didn't run it; the worked cases passed on it when the release was made.",
         "lib/libsurf.a": "the program as one function for C (include/surf.h), with the kit's functions that call "
-        f"malloc. Over the libraries of the gate it was proved and built by one run: {libraries.VERDICT.read_text().strip()}",
+        f"malloc. Over the libraries of the gate it was proved and built by one run: "
+        f"{libraries.VERDICT.read_text().strip()}",
         "lib/libsurf.so.0": "the function as a shared library with one name, surf_call.",
     }
 

@@ -4,8 +4,8 @@
 Run as a script it makes that static library, crates/surf_c/out/libsurf_c.a, where it isn't there or is older than a
 source. surf_c is proved anew, over the libraries that the gate proved and left: some minutes. Where a gate left none,
 `rt check` proves them first, which takes as long as a gate. Beside the library stand the LLVM module that clang made
-it of, since the page for browsers is made of that, too, the line which says that it is proved, and what the compiler said
-of the functions in C that its proof rests on.
+it of, since the page for browsers is made of that, too, the line which says that it is proved, and what the compiler
+said of the functions in C that its proof rests on.
 
 A gate that took the program from an earlier run leaves it without its object file, of which a release links a static
 program. Then that is built again, too, in the same way, and has to give the bytes of the gate's program.

@@ -84,7 +84,8 @@ def synopsis(usage: Usage, name: str) -> list[str]:
 
 def description(usage: Usage, front: str) -> list[str]:
     """What the letters stand for, and how files are read."""
-    lines = [sentences("Every answer is proved, and every refusal but that of want of memory, against definitions that come "
+    lines = [sentences("Every answer is proved, and every refusal but that of want of memory, against definitions that "
+                       "come "
                        "with the program.")]
     lines += [item(f"\\fI{letter}\\fR", what) for letter, what in usage.letters.items()]
     return lines + [block_as_roff(block) for block in blocks_of(front)]

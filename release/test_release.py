@@ -281,9 +281,11 @@ class Libraries(unittest.TestCase):
 class Axioms(unittest.TestCase):
     """The list of contracts of C functions, over a kit that declares six."""
 
-    SAID = "axioms libc: 2 reached of the 4 declared\n  libc::heap::take   reached\n  libc::pipe2\n  libc::read   reached\n  libc::write\n"
+    SAID = ("axioms libc: 2 reached of the 4 declared\n  libc::heap::take   reached\n  libc::pipe2\n"
+            "  libc::read   reached\n  libc::write\n")
     SAID += "axioms os: none reached of the 2 declared\n  os::c::open\n  os::c::arg\nlogic=proved functions=1\n"
-    LIBC = 'unsafe extern "C" {\n    // fn none(a: i32)\n    pub safe fn read(fd: i32);\n    pub fn write(fd: i32)\n        requires { W fd };\n    fn pipe2();\n}\nfn own() {}\n'
+    LIBC = ('unsafe extern "C" {\n    // fn none(a: i32)\n    pub safe fn read(fd: i32);\n    pub fn write(fd: i32)\n'
+            '        requires { W fd };\n    fn pipe2();\n}\nfn own() {}\n')
     HEAP = 'mod c {\n    unsafe extern "C" {\n        pub fn take(n: usize);\n    }\n    fn other() {}\n}\n'
     OS = 'unsafe extern "C" {\n    pub safe fn arg();\n    pub fn open(path: &[u8]);\n}\n'
     LIST = axioms.Reached({"libc::read", "libc::heap::take", "libc::pipe2", "os::c::open"}, {"libc::heap::take"},
@@ -294,7 +296,8 @@ class Axioms(unittest.TestCase):
         room = tempfile.TemporaryDirectory()
         self.addCleanup(room.cleanup)
         self.top = pathlib.Path(room.name)
-        for name, text in (("libc/src/lib.rt", self.LIBC), ("libc/src/heap.rt", self.HEAP), ("os/src/c.rt", self.OS), ("std/src/lib.rt", "fn a() {}\n")):
+        for name, text in (("libc/src/lib.rt", self.LIBC), ("libc/src/heap.rt", self.HEAP), ("os/src/c.rt", self.OS),
+                           ("std/src/lib.rt", "fn a() {}\n")):
             path = self.top / "rattle" / name
             path.parent.mkdir(parents=True, exist_ok=True)
             path.write_text(text)
@@ -304,13 +307,15 @@ class Axioms(unittest.TestCase):
         for path, text in zip(files, (program, library, report)):
             path.unlink(missing_ok=True)
             if text:
-                path.write_text("".join(f"                 U {name}\n" for name in text.split()) if path.suffix != ".axioms" else text)
+                path.write_text("".join(f"                 U {name}\n" for name in text.split())
+                                if path.suffix != ".axioms" else text)
         with mock.patch.object(axioms, "ran", lambda words: words[-1].read_text()):
             return list(axioms.faults(page, self.top, axioms.Built(*files)))
 
     def test_what_the_compiler_said(self):
         self.assertEqual(axioms.reached_of(self.SAID), {"libc::heap::take", "libc::read"})
-        self.assertEqual(libraries.report_of(f"fn a: proved\n{self.SAID}"), self.SAID.replace("logic=proved functions=1\n", ""))
+        self.assertEqual(libraries.report_of(f"fn a: proved\n{self.SAID}"),
+                         self.SAID.replace("logic=proved functions=1\n", ""))
         with self.assertRaisesRegex(proof.Refused, "list-axioms"):
             axioms.reached_of("logic=proved functions=1\n")
 
@@ -319,7 +324,8 @@ class Axioms(unittest.TestCase):
 
     def test_the_list_is_read_back(self):
         self.assertEqual(axioms.listed(self.PAGE), self.LIST)
-        self.assertIn("| `libc` | `pipe2`, **`read`** |  |\n| `libc::heap` | **`take`** | `take` |\n| `os::c` | **`open`** |  |\n", self.PAGE)
+        self.assertIn("| `libc` | `pipe2`, **`read`** |  |\n| `libc::heap` | **`take`** | `take` |\n"
+                      "| `os::c` | **`open`** |  |\n", self.PAGE)
         self.assertEqual(axioms.rewritten(self.PAGE, self.LIST, 6), self.PAGE)
         with self.assertRaisesRegex(proof.Refused, "no list"):
             axioms.listed("# Proved\n\n## Next\n")
@@ -330,14 +336,17 @@ class Axioms(unittest.TestCase):
         self.assertEqual(self.faults(report=self.SAID.replace("read   reached", "read")), [])
 
     def test_what_is_missing_in_the_list(self):
-        self.assertEqual(self.faults(program="take read open write"), ["the program asks for write, which isn't listed for it"])
-        self.assertEqual(self.faults(program="take read pipe2"), ["the program asks for others: libc::pipe2 os::c::open"])
+        self.assertEqual(self.faults(program="take read open write"),
+                         ["the program asks for write, which isn't listed for it"])
+        self.assertEqual(self.faults(program="take read pipe2"),
+                         ["the program asks for others: libc::pipe2 os::c::open"])
         self.assertEqual(self.faults(library="take read"), ["the library asks for read, which isn't listed for it"])
         self.assertEqual(self.faults(report=self.SAID), ["the library's proof rests on other contracts: libc::read"])
 
     def test_what_nobody_declares(self):
         wrong = self.LIST._replace(program=self.LIST.program | {"os::c::close"})
-        self.assertEqual(self.faults(axioms.rewritten(self.PAGE, wrong, 6)), ["os::c::close is listed, and the kit declares no such function"])
+        self.assertEqual(self.faults(axioms.rewritten(self.PAGE, wrong, 6)),
+                         ["os::c::close is listed, and the kit declares no such function"])
         self.assertEqual(len(self.faults(axioms.rewritten(self.PAGE, self.LIST, 7))), 1)
 
 

@@ -13,7 +13,7 @@ PAGE = pathlib.Path(__file__).resolve().parent / "page"
 # The modules of the viewer, of the page around it, of a file that shows a picture, and of the page's worker, each
 # behind those that it imports from.
 VIEWER = ["units", "walks", "dom", "paint", "camera", "gl", "plain", "view", "flat", "walklist", "viewer"]
-FINDER = ["refusals", "commands", "form", "faults", "mended", "session", "work", "finder", "handles"]
+FINDER = ["told", "refusals", "commands", "form", "faults", "mended", "session", "work", "finder", "handles"]
 FINDER += ["samples", "main"]
 PICTURE = ["lines", "readers", "mend", "shape", "opened", "unfold", "scene", "picture"]
 WORKER = ["lines", "readers", "mend", "holes", "mends", "shape", "opened", "unfold", "surgery", "cycles"]

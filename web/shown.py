@@ -1,4 +1,5 @@
-"""Files that show an answer, as tools/users/viewfiles makes them, opened from disk in a browser and used as a user does.
+"""Files that show an answer, as tools/users/viewfiles makes them, opened from disk in a browser and used as a user
+does.
 
 What they show is known by how it is made: a ring of squares with the walks round it and through it.
 """
@@ -45,7 +46,8 @@ PAINTED = """new Promise((done) => {
       });
     }
     const box = canvas.getBoundingClientRect(), middle = (list) => list[list.length >> 1];
-    const place = (at) => [box.x + (at %% width) * box.width / width, box.y + Math.floor(at / width) * box.height / height];
+    const across = (at) => box.x + (at %% width) * box.width / width;
+    const place = (at) => [across(at), box.y + Math.floor(at / width) * box.height / height];
     done({ sum, counts: places.map((list) => list.length), at: places.map((list) => place(middle(list) || 0)) });
   });
 })"""
@@ -115,7 +117,8 @@ class Picture:
         return self.page.js(PAINTED % [list(colour) for colour in colours])
 
     def key(self, key: str):
-        self.page.js(f"void document.getElementById('canvas').dispatchEvent(new KeyboardEvent('keydown', {{key: {key!r}}}))")
+        self.page.js(f"void document.getElementById('canvas').dispatchEvent(new KeyboardEvent('keydown', {{key: "
+                     f"{key!r}}}))")
 
     def point(self, x: float, y: float):
         """Moves the mouse to a place of the picture, and waits until it was heard."""
@@ -128,7 +131,8 @@ class Picture:
         self.page.js(f"(it => {{ {script} }})(document.getElementById({name!r}))")
 
     def rows(self) -> list[str]:
-        return self.page.js("[...document.querySelectorAll('#list li')].filter(it => !it.hidden).map(it => it.textContent)")
+        return self.page.js("[...document.querySelectorAll('#list li')].filter(it => !it.hidden).map(it => "
+                            "it.textContent)")
 
 
 def each_kind(picture: Picture, checks: Checks):
@@ -147,7 +151,8 @@ def each_kind(picture: Picture, checks: Checks):
     for name in ("values", "face values"):
         counts = found[name]["counts"][2:]
         checks.expect(f"{name} are drawn", min(counts) > 100 and not any(found["bare"]["counts"][2:]), counts)
-    checks.expect("the counts of the ring", facts["bare"] == "vertices288edges576faces288characteristic0", facts["bare"])
+    checks.expect("the counts of the ring", facts["bare"] == "vertices288edges576faces288characteristic0",
+                  facts["bare"])
     checks.expect("the total length", facts["basis"].endswith("total length46.912"), facts["basis"])
     checks.expect("a basis in words", words["basis"] == "2 closed walks", words["basis"])
     checks.expect("a cut in words", words["cut"] == f"A disc, cut along {STEPS + ROUNDS} edges", words["cut"])
@@ -282,7 +287,8 @@ def pictures_of(program: pathlib.Path, room: pathlib.Path, folder: pathlib.Path)
             subprocess.run([sys.executable, TOP / "tools/users/show.py", eight, found, *how], check=True)
             page.go(f"file://{path}")
             page.until(READY)
-            page.js("new Promise(done => setTimeout(() => requestAnimationFrame(() => requestAnimationFrame(done)), 500))")
+            page.js("new Promise(done => setTimeout(() => requestAnimationFrame(() => requestAnimationFrame(done)), "
+                    "500))")
             (folder / f"{name}.png").write_bytes(page.picture())
     finally:
         page.close()

@@ -240,7 +240,7 @@ test('a refusal names what to show, by the numbers of the mesh and of the file',
   const shape = { kind: 'obj', names: Uint32Array.of(4, 5, 6, 7, 8, 9) };
   const border = explain('surface: border 0 3 2', shape);
   assert.deepEqual([border.edges, border.faces], [[0, 3], [2]]);
-  assert.match(border.text, /vertex 0 \(v 5 of the OBJ\) to vertex 3 \(v 8 of the OBJ\)/);
+  assert.match(border.text, /^Edge 0 3 has one face, 2: .*\. In the file vertex 0 is v 5, vertex 3 is v 8\.$/);
   assert.deepEqual(explain('surface: pinched 5 1 2', shape).vertices, [5]);
   assert.deepEqual(explain('surface: apart 4', null).faces, [0, 4]);
 });

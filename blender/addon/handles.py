@@ -66,4 +66,3 @@ def _with_part(change: Change, count: int, surface: Surface, left: Surface) -> C
     change.places[surface.vertex_origins[moved]] = left.vertices[moved]
     places = np.concatenate([change.places, left.vertices[old:]])
     return change._replace(origins=[*change.origins, *new.tolist()], places=places)
-

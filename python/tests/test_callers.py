@@ -249,7 +249,8 @@ class Processor(unittest.TestCase):
 
 class Libraries(unittest.TestCase):
     def test_each_system_has_its_own(self):
-        names = [("linux", "x86_64"), ("linux", "aarch64"), ("win32", "AMD64"), ("darwin", "arm64"), ("freebsd14", "amd64")]
+        names = [("linux", "x86_64"), ("linux", "aarch64"), ("win32", "AMD64"), ("darwin", "arm64"),
+                 ("freebsd14", "amd64")]
         due = ["libsurf.so", "libsurf-aarch64.so", "surf.dll", "libsurf-arm64.dylib", "libsurf-c.so"]
         self.assertEqual([_library.own_name(*it) for it in names], due)
 

@@ -76,7 +76,8 @@ class Files(unittest.TestCase):
         surface = surfbasis.Surface.mended(points, faces, close="hub", decimals=5)
         side = int(2 * np.sin(np.pi / 12) * 10**5)
         basis = surface.basis()
-        self.assertEqual([(walk.units, sorted(walk.vertices.tolist())) for walk in basis], [(12 * side, list(range(12)))])
+        self.assertEqual([(walk.units, sorted(walk.vertices.tolist())) for walk in basis],
+                         [(12 * side, list(range(12)))])
         dear = np.where(surface.edges[:, 1] < 12, 9, 1)
         self.assertEqual(surface.with_lengths(dear).basis()[0].vertices.min(), 12)
         for lengths in (None, "unit"):

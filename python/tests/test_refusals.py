@@ -167,7 +167,8 @@ class Witnesses(unittest.TestCase):
         self.assertFalse(fault)
         self.assertEqual((fault.units, fault.fault.split()[0]), (None, "parent"))
         self.assertIn("tree at", fault.meaning)
-        for text, kind in [(b"hello", "header"), (made[: made.index(b"\ndual")], "early"), (made + b"more", "trailing")]:
+        for text, kind in [(b"hello", "header"), (made[: made.index(b"\ndual")], "early"),
+                           (made + b"more", "trailing")]:
             self.assertEqual(self.refused(surfbasis.CertificateRefused, surface.check, text).kind, kind)
         self.assertEqual(self.refused(surfbasis.CertificateRefused, surface.confirm, [0], "maybe 1").kind, "header")
         self.assertEqual(surface.confirm([0, 1, 2], b"null 0").fault, "boundary 0 1")

@@ -167,6 +167,7 @@ class BesideTheProgram(unittest.TestCase):
             surface.cut(0, [1, 2, 3])
         except surfbasis.WordsRefused:
             self.skipTest("this build of surf has no cut through vertices")
+
         def check(surface, asked):
             points = [0, surface.vertex_count // 2, surface.vertex_count - 1]
             asked.file("points", " ".join(map(str, points)))

@@ -18,19 +18,22 @@ PAGE = TOP / "docs" / "definitions.md"
 def names_of(path):
     """The names that a file of definitions introduces."""
     text = path.read_text()
-    found = re.findall(r"^ *(?:pub )?(?:abbrev |unfoldable |record |data )?(?:pub )?(?:record |data )?([\w◌≤<+>\[\]-]+)", text, re.M)
+    found = re.findall(r"^ *(?:pub )?(?:abbrev |unfoldable |record |data )?(?:pub )?(?:record |data "
+                       r")?([\w◌≤<+>\[\]-]+)", text, re.M)
     return set(found) | set(re.findall(r"^ +(?:pub )?(\w+) :", text, re.M))
 
 
 def name_faults(text):
-    """Definitions in bold paragraphs that aren't where the page says: `crate.File.Name`, then `File.Name`, then `Name`."""
+    """Definitions in bold paragraphs that aren't where the page says: `crate.File.Name`, then `File.Name`, then
+    `Name`."""
     for paragraph in re.findall(r"^\*\*[^*]+\*\* \(([^)]*)\)\.", text, re.M):
         crate = path = None
         for name in re.findall(r"`([^`]+)`", paragraph):
             parts = name.split(".")
             if parts[0].startswith("surf_"):
                 crate, parts = parts[0], parts[1:]
-            if len(parts) == 2 or (parts and parts[0][0].isupper() and crate and (TOP / f"crates/{crate}/specs/{parts[0]}.antt").exists()):
+            if len(parts) == 2 or (parts and parts[0][0].isupper() and crate
+                                   and (TOP / f"crates/{crate}/specs/{parts[0]}.antt").exists()):
                 homes = [crate] if crate else sorted(p.name for p in (TOP / "crates").iterdir())
                 files = [TOP / f"crates/{home}/specs/{parts[0]}.antt" for home in homes]
                 files = [file for file in files if file.exists()] or [

@@ -4,9 +4,9 @@
     check_documents.py           ends with 1 where there are too many words, or where a line is too long
     check_documents.py --list    prints the words of each document
 
-Counted are README.md, CHANGELOG.md, CONTRIBUTING.md and all pages of docs/, but not what scripts make: docs/laws.md, from
-the comments of the laws, and the tables of docs/speed.md, from measurements. Lines of tables, of code and of links may
-be longer than 118 columns.
+Counted are README.md, CHANGELOG.md, CONTRIBUTING.md and all pages of docs/, but not what scripts make: docs/laws.md,
+from the comments of the laws, and the tables of docs/speed.md, from measurements. Lines of tables, of code and of
+links may be longer than 118 columns.
 """
 
 import re

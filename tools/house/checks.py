@@ -1,9 +1,9 @@
 #!/usr/bin/env python3
 """Runs the repository's checks beside the gate, as many at once as there are processors.
 
-    python3 tools checks [--jobs N]              all of them; --jobs 1 runs one after the other
-    python3 tools checks --bad-gate [--jobs N]   after a gate that failed: those that build over what it left are not run
-    python3 tools checks --list                  the table
+    python3 tools checks [--jobs N]     all of them; --jobs 1 runs one after the other
+    python3 tools checks --bad-gate ..  after a gate that failed: those that build over what it left are not run
+    python3 tools checks --list         the table
 
 One alone is run by its name in the table, at the top of the repository: `python3 -m web.check`.
 
@@ -47,8 +47,8 @@ class Ended(NamedTuple):
     seconds: float
 
 
-# All checks. Each writes into a temporary folder of its own, but for the first: it makes the library for C, which others
-# call. Those of the group MEMORY may take a gigabyte, or start many processes: one of them runs at a time.
+# All checks. Each writes into a temporary folder of its own, but for the first: it makes the library for C, which
+# others call. Those of the group MEMORY may take a gigabyte, or start many processes: one of them runs at a time.
 CHECKS = [
     Check("release.libraries", ALONE, over_gate=True),
     Check("tools.oracles.run_cases"),
@@ -63,6 +63,7 @@ CHECKS = [
     Check("tools.oracles.misuses", MEMORY),
     Check("tools.oracles.check_c"),
     Check("tools.oracles.check_python"),
+    Check("web.told --check"),
     Check("web.check", MEMORY),
     Check("blender.check", MEMORY),
     Check("elsewhere.check", MEMORY, over_gate=True),
@@ -75,6 +76,7 @@ CHECKS = [
     Check("elsewhere.test_elsewhere"),
     Check("tools.house.wrong_bodies --check"),
     Check("tools.house.crate_graph --check"),
+    Check("tools.house.check_style"),
     Check("tools.house.check_documents"),
     Check("tools.house.check_definitions"),
     Check("tools.house.laws --check"),

@@ -2,7 +2,7 @@
 """Makes docs/laws.md, the page of all laws, from the comments over their statements.
 
     laws.py --write     makes the page anew
-    laws.py --check     ends with 1 where the page is old, where a law has no comment, or where a type of data is named as one
+    laws.py --check     ends with 1 where the page is old, or a law has no comment or is a type of data
 
 A law is a definition in the `specs/` of a crate that a clause of a public function without arguments and with an empty
 body states, for all values and under premises that the clause may name before it. Its comment says what it states, and

@@ -114,7 +114,7 @@ class Specs:
         crate, module = parts[0], ".".join(parts[2:]).removesuffix(".antt")
         text = path.read_text()
         self.scopes[crate, module] = imports_of(text)
-        current, in_import = None, False
+        current = None
         for number, line in enumerate(text.splitlines(), 1):
             if re.match(r"\s*(pub )?(use|open|mod|module|infix\w*) ", line):
                 current = None if re.match(r"\s*(module|mod) ", line) else current
@@ -151,7 +151,8 @@ class Specs:
         return found
 
     def cases_here(self, definition, passed_over):
-        """Those names of cases that are requests where the definition stands: others may use the words for variables."""
+        """Those names of cases that are requests where the definition stands: others may use the words for
+        variables."""
         if (definition.crate, definition.module) == self.requests:
             return passed_over
         scope = self.scopes[definition.crate, definition.module]
@@ -226,7 +227,8 @@ def counts(specs, top):
         if key not in specs.definitions:
             sys.exit(f"tools/house/reach.py: what `{command}` answers, {key}, isn't there")
         answer, whole = specs.reached([key], passed_over), specs.reached(run, passed_over)
-        yield command, key, len(answer), specs.line_count(answer, passed_over), len(whole), specs.line_count(whole, passed_over)
+        yield command, key, len(answer), specs.line_count(answer,
+                                                          passed_over), len(whole), specs.line_count(whole, passed_over)
 
 
 def page_text(specs, top):
@@ -237,15 +239,16 @@ def page_text(specs, top):
         for command, key, few, lines, all_few, all_lines in counts(specs, top)
     ]
     text = TEXT.format(
-        rows="\n".join(rows), run=len(run), run_lines=specs.line_count(run), crates=len({key.split(".")[0] for key in run}),
+        rows="\n".join(rows), run=len(run), run_lines=specs.line_count(run),
+        crates=len({key.split(".")[0] for key in run}),
         all=len(specs.definitions), all_lines=specs.line_count(specs.definitions),
         head=len(head), head_lines=specs.line_count(head), loops=len(loops), loops_lines=specs.line_count(loops),
         theorem=len(theorem), theorem_lines=specs.line_count(theorem),
         names=", ".join(f"`{name.split('.')[-1]}`" for name in HEADLINE),
     )
-    whole = (line if line.startswith("|") else textwrap.fill(line, 118, break_long_words=False, break_on_hyphens=False)
-             for line in text.splitlines())
-    return "\n".join(whole) + "\n"
+    whole = (part if part.startswith("|") else textwrap.fill(part, 118, break_long_words=False, break_on_hyphens=False)
+             for part in text.strip().split("\n\n"))
+    return "\n\n".join(whole) + "\n"
 
 
 HEADLINE = [f"surf_surfaces.{name}" for name in (
@@ -260,17 +263,25 @@ THEOREM += [f"surf_classes.{name}" for name in (
 THEOREM += ["surf_seams.Through.HasCopyOnBorder"]
 TEXT = """# How many lines a reader has to believe
 
-A proof shows that the program meets its contract. Whether the contract says what you want, you have to read for yourself. `tools reach --write` counts here what there is to read, and `tools reach loops` lists the definitions under an answer, with their files.
+A proof shows that the program meets its contract. Whether the contract says what you want, you have to read for
+yourself. `tools reach --write` counts here what there is to read, and `tools reach loops` lists the definitions
+under an answer, with their files.
 
-**The theorem alone**: {names}, with all that they rest on, are {head} definitions of {head_lines} lines. They stand in `surf_surfaces` and `surf_z2`, and [definitions.md](definitions.md) says them in prose. For loops alone, `IsSurface` and `IsLeastLoopSystem`, they are {loops} of {loops_lines} lines; all that [theorem.md](theorem.md) names are {theorem} of {theorem_lines}.
+**The theorem alone**: {names}, with all that they rest on, are {head} definitions of {head_lines} lines. They stand
+in `surf_surfaces` and `surf_z2`, and [definitions.md](definitions.md) says them in prose. For loops alone,
+`IsSurface` and `IsLeastLoopSystem`, they are {loops} of {loops_lines} lines; all that [theorem.md](theorem.md)
+names are {theorem} of {theorem_lines}.
 
-An **answer** is the theorem, the choice among ties, and how it is written down. The **contract** is all that `run` says of the command: also how words, files and lengths are read, which refusal comes first, and its line.
+An **answer** is the theorem, the choice among ties, and how it is written down. The **contract** is all that `run`
+says of the command: also how words, files and lengths are read, which refusal comes first, and its line.
 
 | Command | Definition of its answer | Definitions | Lines | in the contract: definitions | lines |
 |---|---|---|---|---|---|
 {rows}
 
-The contract of `run`, for all commands, rests on {run} definitions of {run_lines} lines in {crates} crates. The `specs/` of all crates have {all} definitions of {all_lines} lines; the others say what the calls below `run` do. Not counted are comments, imports, empty lines, enums and structs of the code, and the words of std.
+The contract of `run`, for all commands, rests on {run} definitions of {run_lines} lines in {crates} crates. The
+`specs/` of all crates have {all} definitions of {all_lines} lines; the others say what the calls below `run` do.
+Not counted are comments, imports, empty lines, enums and structs of the code, and the words of std.
 """
 
 
@@ -284,7 +295,8 @@ def main():
         stale = sorted(set(EXCUSED) - set(lost))
         for key in stale:
             print(f"{key} needs no excuse any more")
-        print(f"{len(specs.definitions)} definitions, {len(lost)} that no clause reaches, {len(set(lost) & set(EXCUSED))} of them excused")
+        print(f"{len(specs.definitions)} definitions, {len(lost)} that no clause reaches, "
+              f"{len(set(lost) & set(EXCUSED))} of them excused")
         return 1 if set(lost) - set(EXCUSED) else 0
     if word == "--write":
         PAGE.write_text(page_text(specs, TOP))

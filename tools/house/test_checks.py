@@ -10,7 +10,7 @@ import time
 import unittest
 
 from tools import TOP
-from tools.house import check_documents, checks, crate_graph, laws, wrong_bodies
+from tools.house import check_documents, check_style, checks, crate_graph, laws, wrong_bodies
 from tools.oracles import check_bases, check_sessions, check_walks, hostile, misuses, run_cases
 from tools.oracles.worked_cases import PLANE_FACES, TORUS_FACES, edges_of
 
@@ -65,7 +65,8 @@ class WrongBodies(unittest.TestCase):
 
 
 class Laws(unittest.TestCase):
-    SOURCE = "//! Colours of things. And more.\nuse a;\n\npub fn law_of_red()\n    ensures red { IsRed 1 }\n    ensures dark { IsRed 2 }\n{}\n"
+    SOURCE = ("//! Colours of things. And more.\nuse a;\n\npub fn law_of_red()\n    ensures red { IsRed 1 }\n"
+              "    ensures dark { IsRed 2 }\n{}\n")
 
     def page_of(self, spec, source=SOURCE):
         with tempfile.TemporaryDirectory() as room:
@@ -89,24 +90,29 @@ class Laws(unittest.TestCase):
         self.assertEqual(len(self.page_of("-- Apart.\n\nabbrev pub IsRed : Type 0\n")[1]), 1)
 
     def test_the_law_stands_behind_its_premises(self):
-        for clause, law in (("IsRed 1", "IsRed 1"), ("(d : Dye) (f : ℕ → ℕ) → IsDye d → IsRed (λ (k : ℕ → ℕ). k)", "IsRed (λ (k : ℕ → ℕ). k)"),
+        for clause, law in (("IsRed 1", "IsRed 1"),
+                            ("(d : Dye) (f : ℕ → ℕ) → IsDye d → IsRed (λ (k : ℕ → ℕ). k)", "IsRed (λ (k : ℕ → ℕ). k)"),
                             ("MergeLaw {C = Dye → Dye} is_red", "MergeLaw {C = Dye → Dye} is_red")):
             self.assertEqual(laws.conclusion(clause), law)
         spec = "-- a dye\npub record Dye : Type 0 where\n\n-- Dyes are red.\nabbrev pub IsRed : Dye → Type 0\n"
-        text, faults = self.page_of(spec, self.SOURCE.replace("IsRed 1", "(d : Dye) → IsRed d").replace("IsRed 2", "IsRed first"))
+        text, faults = self.page_of(spec, self.SOURCE.replace("IsRed 1",
+                                                              "(d : Dye) → IsRed d").replace("IsRed 2", "IsRed first"))
         self.assertIn("| `IsRed` | Dyes are red. | `law_of_red`, `red`, `dark` |", text)
         self.assertEqual(faults, [])
 
     def test_a_type_of_data_is_no_law(self):
-        spec = "-- a dye\npub record Dye : Type 0 where\n  pub hue : ℕ\n\n-- Red.\nabbrev pub IsRed : Type 0\nIsRed = (d : Dye) → d ≡ d\n"
-        self.assertEqual(self.page_of(spec, self.SOURCE.replace("IsRed 2", "Dye"))[1], ["surf_a: law_of_red: Dye is a type of data and no law"])
+        spec = ("-- a dye\npub record Dye : Type 0 where\n  pub hue : ℕ\n\n-- Red.\nabbrev pub IsRed : Type 0\n"
+                "IsRed = (d : Dye) → d ≡ d\n")
+        self.assertEqual(self.page_of(spec, self.SOURCE.replace("IsRed 2", "Dye"))[1],
+                         ["surf_a: law_of_red: Dye is a type of data and no law"])
         lists = spec.replace("(d : Dye)", "(ds es : List Dye)")
         self.assertEqual(len(self.page_of(lists, self.SOURCE.replace("IsRed 2", "Dye"))[1]), 1)
 
     def test_the_spaces_that_a_law_is_stated_for(self):
         spec = "-- Sums.\nabbrev pub IsRed : Type 0\n"
         source = self.SOURCE.replace("IsRed 1", "IsRed numbers").replace("IsRed 2", "IsRed chains")
-        self.assertIn("| Sums. Stated of sets of numbers, each written as one number, and of chains. |", self.page_of(spec, source)[0])
+        self.assertIn("| Sums. Stated of sets of numbers, each written as one number, and of chains. |",
+                      self.page_of(spec, source)[0])
         self.assertIn("| Sums. |", self.page_of(spec)[0])
 
 
@@ -122,7 +128,8 @@ class Documents(unittest.TestCase):
         most = "word\n" * check_documents.MOST_WORDS
         for name in ("README.md", "docs/page.md", "docs/decisions/page.md"):
             self.assertEqual(self.faults(most, name), [])
-            self.assertEqual(self.faults(f"{most}more\n", name), ["the documents have 30001 words, and 30000 are allowed"])
+            self.assertEqual(self.faults(f"{most}more\n", name),
+                             ["the documents have 30001 words, and 30000 are allowed"])
         self.assertEqual(self.faults(f"{most}more\n", "docs/laws.md"), [])
 
     def test_a_line_too_long(self):
@@ -162,7 +169,8 @@ class Sessions(unittest.TestCase):
 
 class Hostile(unittest.TestCase):
     def test_what_a_run_may_do(self):
-        for good in [(0, b"x", b""), (1, b"no even\n", b""), (4, b"", b"surface: apart 4\n"), (10, b"x", b"write fault\n")]:
+        for good in [(0, b"x", b""), (1, b"no even\n", b""), (4, b"", b"surface: apart 4\n"),
+                     (10, b"x", b"write fault\n")]:
             self.assertIsNone(hostile.fault_of(*good), good)
         for bad in [(-11, b"", b""), (None, b"", b""), (0, b"x", b"y\n"), (4, b"x", b"surface: empty\n"), (4, b"", b""),
                     (4, b"", b"surface: empty\nmore\n"), (15, b"", b""), (3, b"", b"surface: empty\n")]:
@@ -204,11 +212,13 @@ class GreatFiles(unittest.TestCase):
         self.assertEqual(self.faults(hostile.great_files), [])
         for kind, command in (("L", "dist"), ("C", "check"), ("W", "class"), ("W2", "same"), ("P", "cut")):
             wrong = "status 11, b'memory\\n'"
-            self.assertEqual(self.faults(hostile.great_files, command), [f"{kind} past the limit: {wrong}", f"{kind} without an end: {wrong}"])
+            self.assertEqual(self.faults(hostile.great_files, command),
+                             [f"{kind} past the limit: {wrong}", f"{kind} without an end: {wrong}"])
 
     def test_each_file_of_each_command(self):
         self.assertEqual(self.faults(hostile.past_runs), [])
-        for command, kind in (("dist", "L"), ("check", "C"), ("class", "W"), ("same", "W2"), ("cut", "P"), ("sew", "O"), ("confirm", "E"), ("info", "M")):
+        for command, kind in (("dist", "L"), ("check", "C"), ("class", "W"), ("same", "W2"), ("cut", "P"),
+                              ("sew", "O"), ("confirm", "E"), ("info", "M")):
             faults = self.faults(hostile.past_runs, command)
             self.assertTrue(any(fault.startswith(command) and f", {kind}:" in fault for fault in faults), faults)
             self.assertTrue(all(fault.startswith(command) for fault in faults), faults)
@@ -268,6 +278,15 @@ class PlainMethod(unittest.TestCase):
             self.assertEqual(count - len(edges_of(each)) + len(each), -1)
 
 
+class Style(unittest.TestCase):
+    def test_what_is_here_is_run(self):
+        names = ["a.py", "blender/addon/__init__.py"]
+        for here, due in (((), []), (("ruff", "pyflakes"), [["ruff", "check", "--quiet", *names]]),
+                          (("pyflakes", "pycodestyle"), [["pyflakes", "a.py"], ["pycodestyle", "a.py"]]),
+                          (("pyflakes", "pyflakes3"), [["pyflakes3", "a.py"]])):
+            self.assertEqual(check_style.commands(names, lambda name, here=here: name in here), due)
+
+
 class Runner(unittest.TestCase):
     """The runner of the checks, over scripts and over checks that only wait."""
 
@@ -278,14 +297,16 @@ class Runner(unittest.TestCase):
             return checks.ran(checks.Check("it a 'b c'"), pathlib.Path(room))
 
     def test_output_is_kept_whole(self):
-        script = "import sys\nfor k in range(9999):\n    print(k)\n    print(-k, file=sys.stderr)\nprint(sys.argv[1:])\n"
+        script = ("import sys\nfor k in range(9999):\n    print(k)\n    print(-k, file=sys.stderr)\n"
+                  "print(sys.argv[1:])\n")
         one = self.ended(script)
         due = "".join(f"{k}\n{-k}\n" for k in range(9999))
         self.assertEqual((one.status, one.output), (0, f"{due}['a', 'b c']\n"))
         self.assertRegex(checks.shown(one), r"^== it a 'b c': [0-9.]+ s\n0\n0\n1\n")
 
     def test_bad_statuses(self):
-        for script, status in (("import sys; sys.exit(7)", 7), ("1 / 0", 1), ("import os; os.kill(os.getpid(), 9)", 137),
+        for script, status in (("import sys; sys.exit(7)", 7), ("1 / 0", 1),
+                               ("import os; os.kill(os.getpid(), 9)", 137),
                                ("import os; os.kill(os.getpid(), 15)", 143)):
             one = self.ended(script)
             self.assertEqual(one.status, status, script)
@@ -336,8 +357,10 @@ class Runner(unittest.TestCase):
         self.assertEqual(max(most), 3)
 
     def test_what_must_not_run_side_by_side(self):
-        rows = [checks.Check("a"), checks.Check("b", checks.ALONE), checks.Check("c", "group"), checks.Check("d", "group"),
-                checks.Check("e"), checks.Check("f", checks.ALONE), checks.Check("g", "other"), checks.Check("h", "group")]
+        rows = [checks.Check("a"), checks.Check("b", checks.ALONE), checks.Check("c", "group"),
+                checks.Check("d", "group"),
+                checks.Check("e"), checks.Check("f", checks.ALONE), checks.Check("g", "other"),
+                checks.Check("h", "group")]
         running, seen, lock = [], [], threading.Lock()
 
         def run(check):
@@ -356,7 +379,8 @@ class Runner(unittest.TestCase):
                 self.assertTrue(name not in together or together == {name})
         self.assertIn({"g", "h"}, seen)
         for early, late in (("a", "b"), ("b", "c"), ("e", "f"), ("f", "g")):
-            self.assertLess(seen.index(next(s for s in seen if early in s)), seen.index(next(s for s in seen if late in s)))
+            self.assertLess(seen.index(next(s for s in seen if early in s)),
+                            seen.index(next(s for s in seen if late in s)))
 
     def test_one_after_the_other(self):
         rows = [checks.Check(name) for name in "abc"]
@@ -397,7 +421,8 @@ class Gate(unittest.TestCase):
         if program:
             (self.top / "crates/surf/out").mkdir(parents=True)
             self.tool("../crates/surf/out/surf", 0)
-        done = subprocess.run([shutil.which("bash"), self.top / ".ci/run"], env={"PATH": str(self.top / "bin")}, capture_output=True, text=True)
+        done = subprocess.run([shutil.which("bash"), self.top / ".ci/run"], env={"PATH": str(self.top / "bin")},
+                              capture_output=True, text=True)
         return done.returncode, done.stdout.splitlines()
 
     def test_a_good_gate(self):

@@ -61,7 +61,8 @@ pub fn act(n: u32)
 
 def made(room):
     top = pathlib.Path(room)
-    for name, text in {"specs/Words.antt": WORDS, "specs/Tasks.antt": TASKS, "specs/Shades.antt": SHADES, "src/lib.rt": CODE}.items():
+    for name, text in {"specs/Words.antt": WORDS, "specs/Tasks.antt": TASKS, "specs/Shades.antt": SHADES,
+                       "src/lib.rt": CODE}.items():
         path = top / "crates" / "surf_a" / name
         path.parent.mkdir(parents=True, exist_ok=True)
         path.write_text(text)
@@ -78,7 +79,8 @@ class Reach(unittest.TestCase):
         self.room.cleanup()
 
     def test_definitions(self):
-        names = ["Shades.Fades", "Tasks.Does", "Tasks.IsRed", "Words.<>", "Words.Colour", "Words.HasShade", "Words.IsDeep", "Words.Lonely", "Words.inner"]
+        names = ["Shades.Fades", "Tasks.Does", "Tasks.IsRed", "Words.<>", "Words.Colour", "Words.HasShade",
+                 "Words.IsDeep", "Words.Lonely", "Words.inner"]
         self.assertEqual(sorted(self.specs.definitions), [f"surf_a.{name}" for name in names])
 
     def test_what_no_clause_reaches(self):
@@ -86,7 +88,8 @@ class Reach(unittest.TestCase):
 
     def test_cases_that_are_passed_over(self):
         found = self.specs.reached(["surf_a.Tasks.Does"], frozenset({"green"}))
-        self.assertEqual(sorted(found), [f"surf_a.{name}" for name in ("Tasks.Does", "Tasks.IsRed", "Words.Colour", "Words.inner")])
+        self.assertEqual(sorted(found), [f"surf_a.{name}"
+                                         for name in ("Tasks.Does", "Tasks.IsRed", "Words.Colour", "Words.inner")])
 
     def test_lines(self):
         self.assertEqual(self.specs.line_count(["surf_a.Tasks.Does"]), 4)
@@ -97,7 +100,8 @@ class Reach(unittest.TestCase):
         self.assertEqual(self.specs.line_count(["surf_a.Shades.Fades"], frozenset({"green"})), 2)
 
     def test_clauses(self):
-        self.assertEqual(list(reach.clauses_of("ensures a { x { y } }\nghost view = { z };\n// ensures { no }\n")), [" x { y } ", " z "])
+        self.assertEqual(list(reach.clauses_of("ensures a { x { y } }\nghost view = { z };\n// ensures { no }\n")),
+                         [" x { y } ", " z "])
         self.assertEqual(list(reach.clauses_of("ghost kept: { x } by { y },\n")), [" x ", " y "])
 
     def test_each_row_of_the_command_table_has_an_answer(self):

@@ -4,10 +4,10 @@
     wrong_bodies.py [CRATE ..]     tries those of the crates, of all crates where none is named
     wrong_bodies.py --check        only looks whether each can be applied, and counts those of the gate
 
-A wrong body is a change of a few lines that turns what a function means. The gate tries those in `crates/CRATE/must-fail/`.
-Those in `wrong-bodies/CRATE/` would cost the gate a second proof of each crate, so they are tried by hand: before a
-release, and after a contract changed. The trial runs `rt must-fail` in a clone of the last commit, and its last line is
-`N refused, M not refused`. The status is 0 where every wrong body was refused.
+A wrong body is a change of a few lines that turns what a function means. The gate tries those in
+`crates/CRATE/must-fail/`. Those in `wrong-bodies/CRATE/` would cost the gate a second proof of each crate, so they
+are tried by hand: before a release, and after a contract changed. The trial runs `rt must-fail` in a clone of the
+last commit, and its last line is `N refused, M not refused`. The status is 0 where every wrong body was refused.
 """
 
 import argparse
@@ -82,7 +82,8 @@ def faults(top):
                 yield f"{path.relative_to(top)}: {fault}"
     count = sum(map(len, gate.values()))
     if count > MOST_EDITS or len(gate) > MOST_CRATES:
-        yield f"the gate tries {count} wrong bodies in {len(gate)} crates, and at most {MOST_EDITS} in {MOST_CRATES} are allowed"
+        most = f"at most {MOST_EDITS} in {MOST_CRATES} are allowed"
+        yield f"the gate tries {count} wrong bodies in {len(gate)} crates, and {most}"
 
 
 def check(top):
@@ -112,8 +113,10 @@ def laid_out(room, wanted):
 
 
 def tried(clone, crate):
-    """What `rt must-fail` says of the crate's wrong bodies: {name: what it came to}, and how many it knew from before."""
-    ran = subprocess.run(["rt", "must-fail", crate], cwd=clone, stdin=subprocess.DEVNULL, capture_output=True, text=True)
+    """What `rt must-fail` says of the crate's wrong bodies: {name: what it came to}, and how many it knew from
+    before."""
+    ran = subprocess.run(["rt", "must-fail", crate], cwd=clone, stdin=subprocess.DEVNULL, capture_output=True,
+                         text=True)
     said = ran.stdout + ran.stderr
     told = {name: what for _, name, what in TOLD.findall(said)}
     return told, sum(int(count) for _, count in KEPT.findall(said)), ran.returncode, said

@@ -3,14 +3,14 @@
 
     check_bases.py [--program PATH] [--surfaces N] [--seed S]
 
-The plain method is written here from the definitions: trees of shortest walks at each vertex, the heaviest tree of faces
-for each, all loops in order of length, base and edge, and of these what is independent of those before. It shares
-nothing with the program and takes a search at every vertex. `loops`, `basis` and `cycle`, the last two also with
-`large`, have to print the same bytes.
-Surfaces of both kinds are made from tori, bottles and planes, glued to each other, by turning edges over; their lengths
-are equal, or few, or many. A quarter as many more have long and short handles, and lengths that tie where a search ends.
-At the end come meshes that are too large for the plain method, of which the answer is known otherwise: 1,024 loops of
-length 4, a torus at the limit of 20,000 vertices, and one past it.
+The plain method is written here from the definitions: trees of shortest walks at each vertex, the heaviest tree of
+faces for each, all loops in order of length, base and edge, and of these what is independent of those before. It
+shares nothing with the program and takes a search at every vertex. `loops`, `basis` and `cycle`, the last two also
+with `large`, have to print the same bytes. Surfaces of both kinds are made from tori, bottles and planes, glued to
+each other, by turning edges over; their lengths are equal, or few, or many. A quarter as many more have long and
+short handles, and lengths that tie where a search ends. At the end come meshes that are too large for the plain
+method, of which the answer is known otherwise: 1,024 loops of length 4, a torus at the limit of 20,000 vertices, and
+one past it.
 """
 
 import argparse
@@ -256,7 +256,8 @@ def compared(program, folder, chance, make, measure):
     for words, due in commands:
         came = run(program, folder, *words)
         if came != due:
-            print(f"{' '.join(words)} on\n{(folder / 'm').read_text()}{(folder / 'l').read_text()}gave\n{came}due\n{due}")
+            print(f"{' '.join(words)} on\n{(folder / 'm').read_text()}{(folder / 'l').read_text()}gave\n{came}due\n"
+                  f"{due}")
             return False
     return True
 

@@ -5,10 +5,10 @@
 
 Each block that is fenced by ``` says what it is by the word behind the fence:
 
-    console TOOL ..   a session: a line that begins with `$ ` is a command for a shell at the top of the repository, with
-                      `surf` on the path, and the lines up to the next such line are what it prints, on either stream. A
-                      line `..` stands for any number of lines, and a line that begins with `> ` right behind a command
-                      goes on with it. Where a named tool isn't here, the session is passed over
+    console TOOL ..   a session: a line that begins with `$ ` is a command for a shell at the top of the repository,
+                      with `surf` on the path, and the lines up to the next such line are what it prints, on either
+                      stream. A line `..` stands for any number of lines, and a line that begins with `> ` right
+                      behind a command goes on with it. Where a named tool isn't here, the session is passed over
     rust FILE, c FILE lines that stand so in that file of the repository
     sh                commands that aren't run here, such as those of the toolchain
     text, and others  no commands
@@ -109,7 +109,8 @@ def matches(shown, printed):
 def run(session, room, places, name):
     wrong = 0
     for command, shown in session.steps():
-        ran = subprocess.run(["bash", "-c", command], cwd=room, env={**os.environ, "PATH": places}, capture_output=True, text=True)
+        ran = subprocess.run(["bash", "-c", command], cwd=room, env={**os.environ, "PATH": places},
+                             capture_output=True, text=True)
         printed = (ran.stdout + ran.stderr).splitlines()
         if not matches(shown, printed):
             wrong += 1

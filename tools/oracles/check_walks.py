@@ -3,8 +3,8 @@
 
     check_walks.py [--program PATH] [--surfaces N] [--seed S]
 
-The plain method searches from every vertex for the least lengths of walks by their ends and classes. The first vertex is
-the least at which a shortest walk of the class begins, and the vertices before the last are chosen from the end
+The plain method searches from every vertex for the least lengths of walks by their ends and classes. The first vertex
+is the least at which a shortest walk of the class begins, and the vertices before the last are chosen from the end
 backwards, each the least that stands on such a walk. On each surface some closed walks are tried, at random, so that
 some are null, some run edges twice, and some are shortest already. The program has to print the same bytes.
 """
@@ -91,7 +91,8 @@ def compared(program, folder, chance):
             came = run(program, folder, "shortest", "m", "l", "w", *last)
             if came != due:
                 wrong += 1
-                print(f"shortest of {walk} on\n{(folder / 'm').read_text()}{(folder / 'l').read_text()}gave\n{came}due\n{due}")
+                print(f"shortest of {walk} on\n{(folder / 'm').read_text()}{(folder / 'l').read_text()}gave\n"
+                      f"{came}due\n{due}")
     return wrong
 
 

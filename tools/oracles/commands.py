@@ -30,7 +30,8 @@ def with_numbers(words):
 
 
 def rows_on_meshes():
-    """The rows that read a mesh `M`, with numbers. The other letters in them stand for files: `L`, `W`, `W2`, `C`, `P`."""
+    """The rows that read a mesh `M`, with numbers. The other letters in them stand for files: `L`, `W`, `W2`, `C`,
+    `P`."""
     return [with_numbers(words) for words in rows() if "M" in words]
 
 

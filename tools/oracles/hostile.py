@@ -7,9 +7,9 @@
 
 PROGRAM is crates/surf/out/surf where none is named. Wanted of every run: a status of the table of docs/formats.md;
 standard output only with 0 and 1; nothing on standard error with these, and else one line that the status allows; no
-signal; an end within a minute, on great texts within ten. Which answer is right is not asked here, but where the answer of a run without faults is
-known. N is how many random texts and spoiled copies of each file of each command there are, 1,000 where nothing is
-said; of other meshes there are a tenth as many. What is random has a fixed seed.
+signal; an end within a minute, on great texts within ten. Which answer is right is not asked here, but where the
+answer of a run without faults is known. N is how many random texts and spoiled copies of each file of each command
+there are, 1,000 where nothing is said; of other meshes there are a tenth as many. What is random has a fixed seed.
 """
 
 import argparse
@@ -38,7 +38,8 @@ WORKERS = max(1, min(4, (os.cpu_count() or 1) // 2))
 # The line that each status from 2 on puts to standard error.
 LINES = {
     2: r"usage: the words are in no row of the command table",
-    3: r"mesh text: (header \d+|counts \d+|vertex-line \d+|face-size \d+|face-index \d+ \d+|face-repeat \d+ \d+|early \d+|trailing \d+)",
+    3: r"mesh text: (header \d+|counts \d+|vertex-line \d+|face-size \d+|face-index \d+ \d+|face-repeat \d+ \d+|early "
+       r"\d+|trailing \d+)",
     4: r"surface: (empty|border \d+ \d+ \d+|crowded \d+ \d+ \d+ \d+ \d+|isolated \d+|pinched \d+ \d+ \d+|apart \d+)",
     5: r"lengths: (form \d+|range \d+|not-edge \d+|twice \d+ \d+|missing \d+ \d+)",
     6: r"limit: (text|vertices|faces|sides|loops|basis-vertices|certificate-vertices|answer|cover-loops|cover-nodes)",
@@ -78,7 +79,8 @@ OTHER_FILES = {"sew": {"M": "O"}, "confirm": {"C": "E"}}
 COMMANDS = [command_of(words) for words in rows_on_meshes()] + [Command("check", "M", "L", "B")]
 MAKERS = [Command(*words) for words in rows_without_files()] + [Command("--help")]
 # What a file of each kind is made of, over the torus of 7 vertices.
-SAMPLES = {"M": "mesh", "L": "lengths", "C": "loops.cert", "B": "basis.cert", "W": "walk", "W2": "walk2", "E": "evidence", "O": "open",
+SAMPLES = {"M": "mesh", "L": "lengths", "C": "loops.cert", "B": "basis.cert", "W": "walk", "W2": "walk2",
+           "E": "evidence", "O": "open",
            "P": "points"}
 
 
@@ -87,7 +89,8 @@ class Program:
         self.path, self.room = str(path), room
 
     def run(self, words, out=subprocess.PIPE, env=None, before=None, seconds=SECONDS):
-        """The status, standard output and standard error of a run; a status below 0 is a signal, None too long a run."""
+        """The status, standard output and standard error of a run; a status below 0 is a signal, None too long a
+        run."""
         try:
             ran = subprocess.run([self.path, *words], cwd=self.room, stdin=subprocess.DEVNULL, stdout=out,
                                  stderr=subprocess.PIPE, env=env, preexec_fn=before, timeout=seconds, close_fds=False)
@@ -154,7 +157,8 @@ def files_over(program, room, mesh, lengths, walk, other):
     for kind, text in (("L", lengths), ("W", walk), ("W2", other), ("P", "6 3 # two\n")):
         files[kind].write_text(text)
     mesh, lengths, walk = (str(files[kind]) for kind in "MLW")
-    for kind, words in {"C": ["certify", mesh, lengths, "0"], "B": ["certify", mesh, lengths], "E": ["class", mesh, walk],
+    for kind, words in {"C": ["certify", mesh, lengths, "0"], "B": ["certify", mesh, lengths],
+                        "E": ["class", mesh, walk],
                         "O": ["cut", mesh, lengths, "0", "trim"]}.items():
         files[kind].write_bytes(program.run(words)[1])
     return files
@@ -257,7 +261,8 @@ def large_mesh_runs(program, files, room, count):
         for command in COMMANDS:
             if not {"C", "B", "E", "W", "P"} & set(command.words):
                 slow = command.name in ("basis M L", "cycle M L", "certify M L")
-                jobs += [(name, text, command, number) for number in range(tenth(tenth(count)) if slow else tenth(count))]
+                jobs += [(name, text, command, number)
+                         for number in range(tenth(tenth(count)) if slow else tenth(count))]
 
     def one(job):
         name, text, command, number = job
@@ -318,8 +323,10 @@ def read_partly(program, words, size):
 def refusals(program, room):
     """Words that are refused for each reason but a file or a stream that fails, and the status."""
     texts = {
-        "pinched": "OFF\n7 8 12\n" + "0 0 0\n" * 7 + "3 0 1 2\n3 0 3 1\n3 0 2 3\n3 1 3 2\n3 0 4 5\n3 0 6 4\n3 0 5 6\n3 4 6 5\n",
-        "apart": "OFF\n8 8 12\n" + "0 0 0\n" * 8 + "3 0 1 2\n3 0 3 1\n3 0 2 3\n3 1 3 2\n3 4 5 6\n3 4 7 5\n3 4 6 7\n3 5 7 6\n",
+        "pinched": "OFF\n7 8 12\n" + "0 0 0\n" * 7 + "3 0 1 2\n3 0 3 1\n3 0 2 3\n3 1 3 2\n3 0 4 5\n3 0 6 4\n3 0 5 6\n"
+                                                     "3 4 6 5\n",
+        "apart": "OFF\n8 8 12\n" + "0 0 0\n" * 8 + "3 0 1 2\n3 0 3 1\n3 0 2 3\n3 1 3 2\n3 4 5 6\n3 4 7 5\n3 4 6 7\n"
+                                                   "3 5 7 6\n",
         "no-mesh": "OFF\n", "many": "OFF\n1000001 1 0\n", "no-lengths": "0 1\n", "no-cert": "\n", "no-walk": "0 1\n",
         "no-vertex": "0 4\n", "near": "0 1\n",
     }
@@ -334,7 +341,8 @@ def refusals(program, room):
         3: [["info", "no-mesh"]],
         4: [["info", "pinched"], ["info", "apart"]],
         5: [["dist", tet, "no-lengths", "0"]],
-        6: [["gen", "torus", "1000", "1001"], ["info", "many"], ["loops", "long", "unit", "0"], ["cycle", "wide", "unit"],
+        6: [["gen", "torus", "1000", "1001"], ["info", "many"], ["loops", "long", "unit", "0"],
+            ["cycle", "wide", "unit"],
             ["certify", "middling", "unit"]],
         7: [["loops", tet, "unit", "4"]],
         8: [["check", tet, "unit", "no-cert"]],
@@ -353,8 +361,10 @@ def diag_runs(program, files, room):
     trials = [(None, command.with_files(given)) for command in COMMANDS + MAKERS for given in (files, missing)]
     for wanted, words in trials + refusals(program, room):
         status, out, line = program.run(words)
-        tally.add(" ".join(words), status, fault_of(status, out, line, allowed=(0, 1, 9) if wanted is None else (wanted,)))
-        for name, close in (("closed", lambda: os.close(2)), ("full", lambda: os.dup2(os.open("/dev/full", os.O_WRONLY), 2))):
+        tally.add(" ".join(words), status,
+                  fault_of(status, out, line, allowed=(0, 1, 9) if wanted is None else (wanted,)))
+        for name, close in (("closed", lambda: os.close(2)),
+                            ("full", lambda: os.dup2(os.open("/dev/full", os.O_WRONLY), 2))):
             got, text, _ = program.run(words, before=close)
             wrong = None if (got, text) == (status, out) else f"status {got} with standard error {name}, else {status}"
             tally.add(f"{' '.join(words)}, {name}", got, wrong)
@@ -386,16 +396,19 @@ def file_runs(program, files, room):
 def word_runs(program, files, room):
     tally = Tally("words that are no row of the table")
     mesh = str(files["M"])
-    for words in ([], [""], ["infos", mesh], ["info"], ["info", mesh, mesh], ["dist", mesh, "unit", "-1"], ["dist", mesh, "unit", "0x0"],
+    for words in ([], [""], ["infos", mesh], ["info"], ["info", mesh, mesh], ["dist", mesh, "unit", "-1"],
+                  ["dist", mesh, "unit", "0x0"],
                   ["dist", mesh, "unit", "4294967296"], ["dist", mesh, "unit", "9" * 1000], ["cut", mesh, "unit", "0"],
                   ["cut", mesh, "unit", "0", "half"], ["cut", mesh, "unit", "0", "through"],
-                  ["cut", mesh, "unit", "0", "trim", mesh], ["gen", "torus", "2", "3"], ["gen", "chain", "0", "4", "4"], ["lengths", mesh, "10"],
+                  ["cut", mesh, "unit", "0", "trim", mesh], ["gen", "torus", "2", "3"],
+                  ["gen", "chain", "0", "4", "4"], ["lengths", mesh, "10"],
                   ["try", "torus", "3", "3"], ["--help", "info"], ["x" * 100000], ["info"] * 1000):
         status, out, line = program.run(words)
         tally.add(f"{' '.join(words)[:60]}", status, fault_of(status, out, line, allowed=(2,)))
     for words in ([b"info", b"\xff"], [b"\xff"]):
         status, out, line = program.run(words)
-        tally.add(f"{words}", status, None if (status, out) == (2, b"") and line in (b"", b"usage: the words are in no row of the command table\n")
+        tally.add(f"{words}", status, None if (status, out) == (2, b"")
+                  and line in (b"", b"usage: the words are in no row of the command table\n")
                   else f"status {status}: {line[:80]!r}")
     return [tally]
 
@@ -407,14 +420,16 @@ class Failing:
 
     def __init__(self, program, room):
         self.program, self.library, self.file = program, room / "failing.so", room / "calls"
-        subprocess.run(["cc", "-O2", "-shared", "-fPIC", "-o", str(self.library), str(TOP / "tools/oracles/failing.c"), "-ldl"], check=True)
+        subprocess.run(["cc", "-O2", "-shared", "-fPIC", "-o", str(self.library), str(TOP / "tools/oracles/failing.c"),
+                        "-ldl"], check=True)
 
     def run(self, words, **settings):
         told = {name: str(value) for name, value in settings.items()}
         return self.program.run(words, env={**os.environ, "LD_PRELOAD": str(self.library), **told})
 
     def calls(self, words, **settings):
-        """How many allocations, opens and reads, and writes to standard output a run makes; none where that isn't told."""
+        """How many allocations, opens and reads, and writes to standard output a run makes; none where that isn't
+        told."""
         self.file.unlink(missing_ok=True)
         self.run(words, CALLS=self.file, **settings)
         text = self.file.read_text() if self.file.exists() else "0 0 0"
@@ -433,10 +448,12 @@ def worked_rows(program, room):
     meshes = TOP / "meshes"
     tet, torus = str(meshes / "tet.off"), str(meshes / "torus33.off")
     chain, loops, basis = (room / name for name in ("chain.off", "chain.loops", "chain.basis"))
-    for path, words in ((chain, ["gen", "chain", "2", "4", "4"]), (loops, ["certify", chain, "unit", "0"]), (basis, ["certify", chain, "unit"])):
+    for path, words in ((chain, ["gen", "chain", "2", "4", "4"]), (loops, ["certify", chain, "unit", "0"]),
+                        (basis, ["certify", chain, "unit"])):
         path.write_bytes(program.run([str(word) for word in words])[1])
     rows = [["info", tet], ["loops", torus, "unit", "0"], ["cycle", torus, "unit"], ["basis", torus, "unit"],
-            ["certify", chain, "unit", "0"], ["check", chain, "unit", loops], ["certify", chain, "unit"], ["check", chain, "unit", basis],
+            ["certify", chain, "unit", "0"], ["check", chain, "unit", loops], ["certify", chain, "unit"],
+            ["check", chain, "unit", basis],
             ["cut", torus, "unit", "0", "trim"], ["cut", torus, "unit", "0", "through", "P"],
             ["shortest", torus, "unit", "W"]]
     (room / "W").write_text("0 1 2 0\n")
@@ -469,7 +486,8 @@ def allocation_runs(program, files, room):
         for tally, setting in ((once, "FAIL_ALLOC"), (onwards, "FAIL_ALLOC_FROM")):
             for number in range(1, counted + 2):
                 status, out, line = failing.run(words, **{setting: number})
-                tally.add(f"{' '.join(words)}, allocation {number} of {counted}", status, memory_fault(right, status, out, line, number <= counted))
+                tally.add(f"{' '.join(words)}, allocation {number} of {counted}", status,
+                          memory_fault(right, status, out, line, number <= counted))
     return [once, onwards]
 
 
@@ -487,13 +505,15 @@ def call_runs(program, files, room):
         for number in range(1, counted + 2):
             got = failing.run(words, FAIL_READ=number, PIECE=16)
             wanted = (9, b"", b"read fault\n") if number <= counted else right
-            reads.add(f"{' '.join(words)}, call {number} of {counted}", got[0], None if got == wanted else f"{got[0]}, {got[1][:60]!r}, {got[2][:60]!r}")
+            reads.add(f"{' '.join(words)}, call {number} of {counted}", got[0],
+                      None if got == wanted else f"{got[0]}, {got[1][:60]!r}, {got[2][:60]!r}")
         text = right[1]
         last = (len(text) + 6) // 7
         for number in [*range(1, min(last, 60)), last, last + 1]:
             got = failing.run(words, FAIL_WRITE=number, PIECE=7)
             wanted = (10, text[: 7 * (number - 1)], b"write fault\n") if number <= last else right
-            writes.add(f"{' '.join(words)}, write {number} of {last}", got[0], None if got == wanted else f"{got[0]}, {len(got[1])} bytes, {got[2][:60]!r}")
+            writes.add(f"{' '.join(words)}, write {number} of {last}", got[0],
+                       None if got == wanted else f"{got[0]}, {len(got[1])} bytes, {got[2][:60]!r}")
         got = failing.run(words, PIECE=1)
         pieces.add(" ".join(words), got[0], None if got == right else f"{got[0]}, {got[1][:60]!r}, {got[2][:60]!r}")
     for mesh in ("eight.off", "three.off"):
@@ -515,7 +535,8 @@ def memory_fault(right, status, out, line, may_fail=True):
     """The answer of the run without faults, or `memory` and nothing else."""
     if (status, out, line) == right or may_fail and (status, out, line) == (11, b"", b"memory\n"):
         return None
-    return fault_of(status, out, line, allowed=(11,) if may_fail else (right[0],)) or f"status {status}, another answer: {out[:60]!r}"
+    return fault_of(status, out, line, allowed=(11,) if may_fail
+                    else (right[0],)) or f"status {status}, another answer: {out[:60]!r}"
 
 
 def room_runs(program, files, room):
@@ -612,9 +633,11 @@ def great_files(program, files, room):
     tally = Tally("great files of each kind: 268,435,456 bytes, one more, and no end")
     path = room / "great"
     for kind, (words, status, line) in GREAT_FILES.items():
-        for what, size, due in (("at the limit", MOST_TEXT, (status, b"", line)), ("past the limit", MOST_TEXT + 1, TOO_LONG)):
+        for what, size, due in (("at the limit", MOST_TEXT, (status, b"", line)),
+                                ("past the limit", MOST_TEXT + 1, TOO_LONG)):
             with sparse(path, size):
-                add_due(tally, f"{kind} {what}", program.run(Command(*words).with_files({**files, "great": path}), seconds=PATIENT), due)
+                add_due(tally, f"{kind} {what}",
+                        program.run(Command(*words).with_files({**files, "great": path}), seconds=PATIENT), due)
         endless = Command(*words).with_files({**files, "great": "/dev/zero"})
         add_due(tally, f"{kind} without an end", program.run(endless, seconds=PATIENT), TOO_LONG)
     return tally
@@ -627,7 +650,8 @@ def past_runs(program, files, room):
     with sparse(path, MOST_TEXT + 1):
         for command in COMMANDS:
             for kind in command.kinds():
-                add_due(tally, f"{command.name}, {kind}", program.run(command.with_files({**files, kind: path}), seconds=PATIENT), TOO_LONG)
+                add_due(tally, f"{command.name}, {kind}",
+                        program.run(command.with_files({**files, kind: path}), seconds=PATIENT), TOO_LONG)
     return [tally]
 
 

@@ -4,10 +4,10 @@
     misuses.py             tries them with `rt try --test`, which compiles and proves nothing
     misuses.py --check     tries them with `rt check`
 
-A must-fail edit has to compile, so it can't show these. Each misuse is a crate of its own in a copy of the repository in
-a temporary folder. The compiler has to name the borrow error at the line of the misuse. The third crate does the same
-without the misuse, and the compiler has to pass it. A trial that the compiler doesn't come to is a fault. Where there is
-no `rt`, nothing is tried.
+A must-fail edit has to compile, so it can't show these. Each misuse is a crate of its own in a copy of the repository
+in a temporary folder. The compiler has to name the borrow error at the line of the misuse. The third crate does the
+same without the misuse, and the compiler has to pass it. A trial that the compiler doesn't come to is a fault. Where
+there is no `rt`, nothing is tried.
 """
 
 import pathlib
@@ -100,7 +100,8 @@ TRIALS = [
 
 
 def tried(top, name, words):
-    ran = subprocess.run(["rt", *words], cwd=top / "crates" / name, stdin=subprocess.DEVNULL, capture_output=True, text=True)
+    ran = subprocess.run(["rt", *words], cwd=top / "crates" / name, stdin=subprocess.DEVNULL, capture_output=True,
+                         text=True)
     return ran.stdout + ran.stderr
 
 

@@ -3,11 +3,11 @@
 
     run_cases.py [--program PATH] [--unwatched] [SHEET ..]
 
-Where no program is named, the cases run on crates/surf/out/surf, as LLVM makes it, if it is there, and on surf.by-rattle
-beside it, as Rattle's own compiler does, if it was made no earlier. Where no sheet is named they are those of
-tools/oracles/cases, which people wrote, and those that tools/oracles/worked_cases.py makes. Each case runs in
-a folder with its files. A case that goes otherwise than is due is printed, and the last line is 'N passed, M failed'.
-With --unwatched it doesn't matter which files are opened.
+Where no program is named, the cases run on crates/surf/out/surf, as LLVM makes it, if it is there, and on
+surf.by-rattle beside it, as Rattle's own compiler does, if it was made no earlier. Where no sheet is named they are
+those of tools/oracles/cases, which people wrote, and those that tools/oracles/worked_cases.py makes. Each case runs
+in a folder with its files. A case that goes otherwise than is due is printed, and the last line is 'N passed, M
+failed'. With --unwatched it doesn't matter which files are opened.
 
 A sheet is read by lines:
 

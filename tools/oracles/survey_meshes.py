@@ -88,7 +88,8 @@ def meshes_of(package, root):
 def convert(path, *flags):
     """Runs `to_off.py`: the status, the mesh, and what was told. A run that takes too long has no status."""
     try:
-        ran = subprocess.run([sys.executable, TOP / "tools", "to_off", path, *flags], capture_output=True, timeout=SECONDS)
+        ran = subprocess.run([sys.executable, TOP / "tools", "to_off", path, *flags], capture_output=True,
+                             timeout=SECONDS)
     except subprocess.TimeoutExpired:
         return None, b"", f"no answer in {SECONDS} seconds"
     return ran.returncode, ran.stdout, ran.stderr.decode("utf-8", "replace")

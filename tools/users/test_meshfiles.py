@@ -794,7 +794,8 @@ class Holes(Case):
 
 class Command(unittest.TestCase):
     def run_it(self, *words, status=0):
-        ran = subprocess.run([sys.executable, TOP / "tools", "to_off", *map(str, words)], capture_output=True, text=True)
+        ran = subprocess.run([sys.executable, TOP / "tools", "to_off", *map(str, words)], capture_output=True,
+                             text=True)
         self.assertEqual(ran.returncode, status, ran.stderr)
         return ran.stdout, ran.stderr
 

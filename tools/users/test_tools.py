@@ -17,8 +17,10 @@ from tools import TOP
 POINTS = [(0, 0, 0), (1, 0, 0), (0, 1, 0), (0, 0, 1)]
 FACES = [(0, 1, 2), (0, 3, 1), (0, 2, 3), (1, 3, 2)]
 TET = "OFF\n4 4 6\n0 0 0\n1 0 0\n0 1 0\n0 0 1\n3 0 1 2\n3 0 3 1\n3 0 2 3\n3 1 3 2\n"
-OBJ = "".join("v %d %d %d\n" % p for p in POINTS) + "".join("f %d/1 %d %d//2\n" % tuple(c + 1 for c in f) for f in FACES)
-PLY_HEAD = "ply\nformat %s 1.0\ncomment made by hand\nelement vertex 4\nproperty float x\nproperty float y\nproperty float z\n"
+OBJ = "".join("v %d %d %d\n" % p for p in POINTS) + "".join("f %d/1 %d %d//2\n" % tuple(c + 1 for c in f)
+                                                            for f in FACES)
+PLY_HEAD = ("ply\nformat %s 1.0\ncomment made by hand\nelement vertex 4\nproperty float x\nproperty float y\n"
+            "property float z\n")
 PLY_HEAD += "element face 4\nproperty list uchar int vertex_indices\nend_header\n"
 PLY = PLY_HEAD % "ascii" + "".join("%d %d %d\n" % p for p in POINTS) + "".join("3 %d %d %d\n" % f for f in FACES)
 PLY_BYTES = (PLY_HEAD % "binary_little_endian").encode()
@@ -31,7 +33,8 @@ LOOSE = "off 4 4 6 0 0 0 1 0 0 # corners\n0 1 0 0 0 1\n3 0 1 2 3 0 3 1\n3 0 2 3 
 
 
 def run(tool, *words):
-    return subprocess.run([sys.executable, TOP / "tools", tool, *map(str, words)], capture_output=True, text=True, check=True).stdout
+    return subprocess.run([sys.executable, TOP / "tools", tool, *map(str, words)], capture_output=True, text=True,
+                          check=True).stdout
 
 
 class Conversions(unittest.TestCase):
@@ -58,7 +61,6 @@ class Conversions(unittest.TestCase):
             path.write_text(text)
             self.assertEqual(run("to_off.py", path, "--tolerance", "1e-6"), TET)
 
-
     def test_the_largest_part(self):
         text = OBJ + "v 9 9 9\nv 9 8 9\nv 9 9 8\nf 5 6 7\n"
         with tempfile.TemporaryDirectory() as room:
@@ -79,11 +81,13 @@ class Unfolding(unittest.TestCase):
             rows = [row.split() for row in flat.read_text().splitlines()]
             self.assertEqual(rows[8:], [row.split() for row in self.CUT.splitlines()[8:12]])
             points = [(float(row[0]), float(row[1])) for row in rows[2:8]]
-            sides = [(points[b][0] - points[a][0]) * (points[c][1] - points[a][1]) - (points[b][1] - points[a][1]) * (points[c][0] - points[a][0])
+            sides = [(points[b][0] - points[a][0]) * (points[c][1] - points[a][1])
+                     - (points[b][1] - points[a][1]) * (points[c][0] - points[a][0])
                      for a, b, c in [(0, 3, 4), (1, 5, 3), (2, 4, 5), (3, 5, 4)]]
             self.assertTrue(all(side > 0.01 for side in sides) or all(side < -0.01 for side in sides))
             text = skin.read_text().splitlines()
-            self.assertEqual([row for row in text if row.startswith("f ")], ["f 1/1 2/4 3/5", "f 1/2 4/6 2/4", "f 1/3 3/5 4/6", "f 2/4 4/6 3/5"])
+            self.assertEqual([row for row in text if row.startswith("f ")],
+                             ["f 1/1 2/4 3/5", "f 1/2 4/6 2/4", "f 1/3 3/5 4/6", "f 2/4 4/6 3/5"])
             self.assertEqual(text[:4], ["v 0 0 0", "v 1 0 0", "v 0 1 0", "v 0 0 1"])
 
 

@@ -53,7 +53,8 @@ def _answer(call: Any, given: List[Any], room: int) -> Tuple[int, bytes]:
 def main() -> None:
     """Writes the status and the answer."""
     library, room, *words = sys.argv[1:]
-    status, text = _answer(surf_call(library), arguments(" ".join(words), [_content(name) for name in "123"]), int(room))
+    status, text = _answer(surf_call(library), arguments(" ".join(words), [_content(name) for name in "123"]),
+                           int(room))
     sys.stdout.buffer.write(bytes([status]) + text)
 
 

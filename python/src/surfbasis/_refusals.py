@@ -102,7 +102,7 @@ class SurfaceRefused(Refused):
     @property
     def advice(self) -> str:
         told = super().advice
-        if "to_off.py" not in told:
+        if "`to_off`" not in told:
             return told
         return f"{told}. In Python `Surface.mended` does so, with close=, tolerance= and part= for these flags"
 

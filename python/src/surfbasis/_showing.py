@@ -14,6 +14,7 @@ from ._callers import Path
 if TYPE_CHECKING:
     from ._surface import Surface
 
+
 class Look(NamedTuple):
     """How a picture looks that is to be turned.
 

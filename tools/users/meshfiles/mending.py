@@ -12,6 +12,7 @@
 from __future__ import annotations
 
 import dataclasses
+import itertools
 from typing import Any, Dict, Iterator, List, Sequence, Set, Tuple
 
 from . import arrays, plain
@@ -375,8 +376,7 @@ def add_rims(mended: Mended, mates: Any, bulk: Any) -> None:
         faces, mended.hub_edges, report.hub_vertex = hub.faces, hub.edges, len(mended.points)
         mended.points = bulk.joined(mended.points, hub.points)
         mended.vertex_origins = bulk.joined(mended.vertex_origins, [-1] * len(hub.points))
-    count = int(mended.starts[-1])
-    ends = [count := count + len(face) for face in faces]
+    ends = list(itertools.accumulate(map(len, faces), initial=int(mended.starts[-1])))[1:]
     mended.corners = bulk.joined(mended.corners, [c for face in faces for c in face])
     mended.starts = bulk.joined(mended.starts, ends)
     mended.face_origins = bulk.joined(mended.face_origins, [-1] * len(faces))
