@@ -43,7 +43,7 @@ def assemble(folder, inside=None):
     return addon
 
 
-def write_zip(addon, path, seconds):
+def write_zip(addon: pathlib.Path, path: pathlib.Path, seconds: int) -> None:
     """The zip of the add-on's folder, all files dated so many seconds after the epoch."""
     date = datetime.datetime.fromtimestamp(max(seconds, 315532800), datetime.timezone.utc).timetuple()[:6]
     with zipfile.ZipFile(path, "w", zipfile.ZIP_DEFLATED) as archive:
@@ -55,7 +55,7 @@ def write_zip(addon, path, seconds):
                 archive.writestr(entry, file.read_bytes())
 
 
-def libraries_elsewhere():
+def libraries_elsewhere() -> dict[str, pathlib.Path]:
     """The libraries for other systems that can be made here, by their names."""
     return {path.name: path for path in native.made().values()}
 
@@ -73,7 +73,7 @@ def make(to, library, elsewhere=None):
     return to / f"{NAME}.zip"
 
 
-def main():
+def main() -> int:
     parser = argparse.ArgumentParser(description=__doc__, formatter_class=argparse.RawDescriptionHelpFormatter)
     parser.add_argument("--to", type=pathlib.Path, required=True)
     parser.add_argument("--library", type=pathlib.Path, default=TOP / "crates/surf_c/out/libsurf_c.a")

@@ -58,7 +58,7 @@ class Said(ctypes.Structure):
     _fields_ = [("size", ctypes.c_size_t), ("status", ctypes.c_uint8)]
 
 
-def version_of(library):
+def version_of(library: pathlib.Path) -> str:
     """The version that a shared library says."""
     call = ctypes.CDLL(str(library)).surf_call
     call.restype = Said
@@ -68,7 +68,7 @@ def version_of(library):
     return room.raw[: said.size].split()[-1].decode()
 
 
-def platform_of(library):
+def platform_of(library: pathlib.Path) -> str:
     """The platform in a wheel's name, by what the shared library asks for."""
     needed = set(re.findall(r"NEEDED.*\[(.*)\]", proof.ran(["readelf", "-d", library])))
     if needed - ALLOWED:
@@ -78,7 +78,7 @@ def platform_of(library):
     return f"manylinux_2_{newest}_x86_64{old_name}"
 
 
-def assemble(folder, inside=None, version="0"):
+def assemble(folder: pathlib.Path, inside: dict[str, pathlib.Path] | None = None, version: str = "0") -> pathlib.Path:
     """Puts the package together in a folder, with shared libraries by their names inside, and returns its path."""
     package = pathlib.Path(folder) / "surfbasis"
     for source, name in FOLDERS:
@@ -94,7 +94,7 @@ def assemble(folder, inside=None, version="0"):
     return package
 
 
-def describe(folder, kind):
+def describe(folder: pathlib.Path, kind: Kind) -> None:
     """Puts pyproject.toml and README.md of a kind into a folder."""
     systems = [", ".join(f'"{name}"' for name in it.systems) for it in (PROVED, kind)]
     words = [(PROVED.summary, kind.summary), (PROVED.library, kind.library)]
@@ -107,7 +107,7 @@ def describe(folder, kind):
         pathlib.Path(folder, name).write_text(text)
 
 
-def interpreter():
+def interpreter() -> str:
     """An interpreter with all that a wheel is made by."""
     asked = f"import sys, importlib.util as util; sys.exit(not all(map(util.find_spec, {MAKERS})))"
     for path in (sys.executable, shutil.which("python3"), "/usr/bin/python3"):
@@ -142,7 +142,7 @@ def tried(python, wheel, program):
         return subprocess.run(words, cwd=room, env=settings).returncode == 0
 
 
-def main():
+def main() -> int:
     parser = argparse.ArgumentParser(description=__doc__, formatter_class=argparse.RawDescriptionHelpFormatter)
     parser.add_argument("--to", type=pathlib.Path, required=True)
     parser.add_argument("--library", type=pathlib.Path, default=libraries.MADE)

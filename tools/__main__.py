@@ -1,5 +1,7 @@
 """Runs a tool by its name: python3 tools NAME WORD .."""
 
+from __future__ import annotations
+
 import ast
 import pathlib
 import runpy

@@ -9,8 +9,10 @@ from the comments of the laws, and the tables of docs/speed.md, from measurement
 links may be longer than 118 columns.
 """
 
+import pathlib
 import re
 import sys
+from collections.abc import Iterator
 
 from tools import TOP
 
@@ -20,7 +22,7 @@ MADE = {"docs/laws.md"}
 MEASURED = {"docs/speed.md"}
 
 
-def documents(top):
+def documents(top: pathlib.Path) -> dict[str, str]:
     """The text of each document, by its name."""
     pages = [top / name for name in ("README.md", "CHANGELOG.md", "CONTRIBUTING.md")]
     pages += sorted((top / "docs").rglob("*.md"))
@@ -28,16 +30,16 @@ def documents(top):
     return {name: text for name, text in texts.items() if name not in MADE}
 
 
-def without_tables(text):
+def without_tables(text: str) -> str:
     return "\n".join(line for line in text.splitlines() if not line.startswith("|"))
 
 
-def words_of(texts):
+def words_of(texts: dict[str, str]) -> dict[str, int]:
     """The words that people wrote, by the names of documents."""
     return {name: len((without_tables(text) if name in MEASURED else text).split()) for name, text in texts.items()}
 
 
-def long_lines(text):
+def long_lines(text: str) -> Iterator[int]:
     """The numbers of lines of prose that are too long."""
     in_code = False
     for number, line in enumerate(text.splitlines(), 1):
@@ -47,7 +49,7 @@ def long_lines(text):
             yield number
 
 
-def faults_of(texts):
+def faults_of(texts: dict[str, str]) -> Iterator[str]:
     for name, text in texts.items():
         for number in long_lines(text):
             yield f"{name}:{number}: longer than {MOST_COLUMNS} columns"
@@ -56,7 +58,7 @@ def faults_of(texts):
         yield f"the documents have {total} words, and {MOST_WORDS} are allowed"
 
 
-def main():
+def main() -> int:
     texts = documents(TOP)
     counts = words_of(texts)
     if "--list" in sys.argv[1:]:

@@ -19,7 +19,7 @@ PAGE = TOP / "docs" / "architecture.md"
 BEGIN, END = "```text crates.txt\n", "```\n"
 
 
-def read_crates(text):
+def read_crates(text: str) -> dict[str, list[str]]:
     """The crates in the order of the file, each with the libraries that it lists."""
     found = {}
     for line in text.splitlines():
@@ -38,7 +38,7 @@ def below(crates, name, known):
     return known[name]
 
 
-def reduced(crates):
+def reduced(crates: dict[str, list[str]]) -> dict[str, list[str]]:
     """What each crate stands on directly, without what those stand on."""
     known, found = {}, {}
     for name in crates:
@@ -53,11 +53,11 @@ def level(graph, name, known):
     return known[name]
 
 
-def short(name):
+def short(name: str) -> str:
     return name.removeprefix("surf_")
 
 
-def drawing(crates):
+def drawing(crates: dict[str, list[str]]) -> str:
     graph, levels = reduced(crates), {}
     for name in crates:
         level(graph, name, levels)
@@ -95,7 +95,7 @@ def redrawn(page, crates):
     return page[:start] + drawing(crates) + page[page.index(END, start) :]
 
 
-def main():
+def main() -> int:
     crates = read_crates((TOP / "crates.txt").read_text())
     word = sys.argv[1] if len(sys.argv) > 1 else ""
     if word == "--unused":

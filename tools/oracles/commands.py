@@ -11,7 +11,7 @@ from tools.users.usage import read_usage
 NUMBERS = {"x": "0", "k": "3", "g": "2", "a": "4", "b": "5", "s": "6"}
 
 
-def help_text():
+def help_text() -> str:
     """What `--help` prints, from the source, or in a release, which has no source, from its program."""
     source = TOP / "crates/surf_words/src/words.rt"
     if not source.is_file():
@@ -19,22 +19,22 @@ def help_text():
     return re.search(r'pub const HELP: &str = "(.*?)";', source.read_text(encoding="utf-8"), re.DOTALL)[1]
 
 
-def rows():
+def rows() -> list[list[str]]:
     """The words of each row but those of `--help` and `--version`, in the order of the help text."""
     return [row.words for row in read_usage(help_text()).rows]
 
 
-def with_numbers(words):
+def with_numbers(words: list[str]) -> list[str]:
     """A row's words with a number for each letter of one."""
     return [NUMBERS.get(word, word) for word in words]
 
 
-def rows_on_meshes():
+def rows_on_meshes() -> list[list[str]]:
     """The rows that read a mesh `M`, with numbers. The other letters in them stand for files: `L`, `W`, `W2`, `C`,
     `P`."""
     return [with_numbers(words) for words in rows() if "M" in words]
 
 
-def rows_without_files():
+def rows_without_files() -> list[list[str]]:
     """The rows that name no file, with numbers."""
     return [with_numbers(words) for words in rows() if "M" not in words]

@@ -1,5 +1,7 @@
 """A test of surfaces by their definition, which shares nothing with the mender or with `surf`."""
 
+from collections.abc import Sequence
+
 
 def hang_together(links, nodes):
     """Whether all nodes can be reached from one over the links, which are pairs."""
@@ -17,7 +19,7 @@ def hang_together(links, nodes):
     return seen == nodes
 
 
-def sides_of(faces):
+def sides_of(faces: Sequence[Sequence[int]]) -> dict[tuple[int, int], list[int]]:
     """For each pair of vertices that follow one another in a face, the faces where they do."""
     found = {}
     for number, face in enumerate(faces):
@@ -26,7 +28,7 @@ def sides_of(faces):
     return found
 
 
-def fault_of(count, faces, border=False):
+def fault_of(count: int, faces: Sequence[Sequence[int]], border: bool = False) -> str | None:
     """Why so many vertices and these faces are no connected surface, or None. With `border` an edge may have one
     face."""
     for number, face in enumerate(faces):
@@ -47,5 +49,5 @@ def fault_of(count, faces, border=False):
     return None
 
 
-def characteristic(count, faces):
+def characteristic(count: int, faces: Sequence[Sequence[int]]) -> int:
     return count - len(sides_of(faces)) + len(faces)

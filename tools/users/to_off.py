@@ -11,15 +11,18 @@ edge that has the ends of another gets a vertex in its middle. The part with the
 surface is left as it is, but for vertices that no face has. What was done is told on standard error.
 """
 
+from __future__ import annotations
+
 import argparse
 import os
 import pathlib
 import sys
+from typing import BinaryIO
 
-from tools.users.meshfiles import MeshFileError, mend, mend_all, read_mesh
+from tools.users.meshfiles import Mended, MeshFileError, mend, mend_all, read_mesh
 
 
-def parsed(arguments):
+def parsed(arguments: list[str] | None) -> argparse.Namespace:
     parser = argparse.ArgumentParser(description=__doc__, formatter_class=argparse.RawDescriptionHelpFormatter)
     parser.add_argument("mesh", type=pathlib.Path, metavar="MESH")
     merging = parser.add_mutually_exclusive_group()
@@ -43,10 +46,10 @@ def parsed(arguments):
     return parser.parse_args(arguments)
 
 
-def write(mended, words, out, number=None):
+def write(mended: Mended, words: argparse.Namespace, out: BinaryIO, number: int | None = None) -> None:
     """Writes one surface, after the files beside it. Those of a part have its number before their ending."""
 
-    def beside(path):
+    def beside(path: pathlib.Path) -> pathlib.Path:
         return path if number is None else words.all / f"{path.stem}-{number}{path.suffix}"
 
     if words.hub:
@@ -57,7 +60,7 @@ def write(mended, words, out, number=None):
     out.flush()
 
 
-def write_all(surfaces, words):
+def write_all(surfaces: list[Mended], words: argparse.Namespace) -> None:
     """A file for each part, named after the mesh and numbered, and a line for each on what was done."""
     words.all.mkdir(parents=True, exist_ok=True)
     name = words.mesh.name.removesuffix(".gz").rsplit(".", 1)[0]
@@ -70,7 +73,7 @@ def write_all(surfaces, words):
         print(f"{path}: {len(mended.starts) - 1} faces{'; ' if told else ''}{told}", file=sys.stderr)
 
 
-def run(words):
+def run(words: argparse.Namespace) -> None:
     how = {"tolerance": None if words.no_merge else words.tolerance, "most": words.most}
     how["holes"] = "close" if words.close else "hub" if words.hub else "keep"
     soup = read_mesh(words.mesh)
@@ -83,7 +86,7 @@ def run(words):
         print(line, file=sys.stderr)
 
 
-def main():
+def main() -> int:
     words = parsed(None)
     try:
         run(words)

@@ -8,14 +8,18 @@ The border is laid on a circle, each side as long as it is in space, and each ot
 neighbours (W. T. Tutte, "How to draw a graph", 1963). Tools for textures stretch less; this one is short.
 """
 
+from __future__ import annotations
+
 import argparse
 import math
 import pathlib
 
 from tools.users.off import Mesh, read_off, write_off
 
+Place = tuple[float, float]  # in the unit square
 
-def border_round(mesh):
+
+def border_round(mesh: Mesh) -> list[int]:
     """The vertices on the border, in one round."""
     beside = {}
     for (u, v), faces in mesh.edges().items():
@@ -34,7 +38,7 @@ def border_round(mesh):
     return round_
 
 
-def circle(mesh, round_):
+def circle(mesh: Mesh, round_: list[int]) -> dict[int, Place]:
     """A place on the circle for each vertex of the border."""
     sizes = [math.dist(mesh.points[u], mesh.points[v]) for u, v in zip(round_, round_[1:] + round_[:1])]
     least = sum(sizes) / (100 * len(sizes))
@@ -46,7 +50,7 @@ def circle(mesh, round_):
     return places
 
 
-def unfolded(mesh):
+def unfolded(mesh: Mesh) -> list[Place]:
     """A place in the plane for each vertex."""
     places = circle(mesh, border_round(mesh))
     beside = [[] for _ in mesh.points]
@@ -68,7 +72,7 @@ def unfolded(mesh):
     return at
 
 
-def skin_text(mesh, places):
+def skin_text(mesh: Mesh, places: list[Place]) -> str:
     """The mesh that was cut as an OBJ, each corner with its place in the plane."""
     points = {origin: point for origin, point in zip(mesh.origins, mesh.points)}
     rows = ["v " + " ".join(f"{x:g}" for x in points[vertex]) for vertex in sorted(points)]
@@ -77,7 +81,7 @@ def skin_text(mesh, places):
     return "\n".join(rows) + "\n"
 
 
-def main():
+def main() -> None:
     parser = argparse.ArgumentParser(description=__doc__, formatter_class=argparse.RawDescriptionHelpFormatter)
     parser.add_argument("open", type=pathlib.Path)
     parser.add_argument("--off", type=pathlib.Path, metavar="FILE")
