@@ -62,7 +62,7 @@ export const TOLD = {
     ["text", "", "the file has more than 268,435,456 bytes", "simplify the mesh"],
     ["vertices", "", "the mesh has more than 1,000,000 vertices", "simplify it"],
     ["faces", "", "the mesh has more than 2,000,000 faces", "simplify it"],
-    ["sides", "", "the faces have more than 6,000,000 corners", "simplify the mesh"],
+    ["sides", "", "the faces have more than 6,000,000 corners", "simplify it"],
     ["answer", "", "the answer has more than 1,073,741,824 bytes", "simplify the mesh"],
     ["loops", "", "2 − χ is above 1,024", "noise often makes small handles: the shortest cycles of a coarser mesh find them"],
     ["basis\\-vertices", "", "the mesh has more than 20,000 vertices", "put `large` behind the words, as in `basis M L large`"],
