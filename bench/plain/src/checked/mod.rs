@@ -40,41 +40,28 @@
 //! it. So it has looked at all edges of the walk, and shows it as before. Therefore the ranges of
 //! the sheets of a round end no later from sheet to sheet.
 //!
-//! **This is the one law that isn't proved yet.** In the words of `surf_sheets`, let `sheets` be a
-//! list of placed sheets, s(t) the one with the number t, and off(t) the set of vertices that it
-//! leaves out. An edge is clear of a set if neither of its `ends` is in it.
+//! This is proved (`law_of_sheet_order` of `surf_sheetorder`), one sheet after the other: let s be a
+//! sheet as far as edges go that have no end in a set `off`. If no closed walk over a vertex of `off`
+//! that is odd on c(i) comes sooner than w(i), then none over a vertex within the margin of s does.
 //!
 //! ```text
-//! IsPlacedSheetOff mesh lengths walks cocycles off s =
-//!     HasNoShortCut and NoneRises at each edge that is clear of off, s.least v ≤ v,
-//!     (i e : ℕ) → IsInRange s.sheet i → i < length walks → e < edge_count mesh →
-//!         IsClear mesh off e → is_crossed mesh (cocycles i) (s.sheet.label i) e ≡ true →
-//!         IsPastPlace mesh lengths s (place_of_walk mesh lengths (walk_at walks i)) e
-//!
-//! AreInOrder sheets off =
-//!     (t x i : ℕ) → t < length sheets → off t x ≡ true → IsInRange (s t).sheet i →
-//!         (r : ℕ) × (r < t) × Serves (s r).sheet i x
-//!
-//! law_of_sheet_order =
-//!     IsSurface mesh →
-//!     ((t : ℕ) → t < length sheets → IsPlacedSheetOff mesh lengths walks cocycles (off t) (s t)) →
-//!     AreInOrder sheets off → AreServed mesh walks cocycles (sheets_of sheets) →
-//!     (i : ℕ) → i < length walks → (walk : List ℕ) → IsClosed mesh walk →
-//!     is_odd_on mesh (cocycles i) walk ≡ true →
-//!     IsTrue (is_no_later (place_of_walk mesh lengths (walk_at walks i))
-//!                         (place_of_walk mesh lengths walk))
+//! IsPlacedSheetOff mesh lengths walks cocycles s → IsInRange s.placed.sheet i →
+//!     ((y : ℕ) → s.off y ≡ true → ComesFirstAt mesh lengths (cocycles i) (place_at_number .. i) y) →
+//!     (x : ℕ) → s.placed.sheet.distance x ≤ s.placed.sheet.margin →
+//!     ComesFirstAt mesh lengths (cocycles i) (place_at_number .. i) x
 //! ```
 //!
-//! With empty sets off(t) this is the law that is proved there, `OddWalksComeNoSooner`. Where an edge
-//! isn't clear, nothing is said of distances, so what `Serves` says there counts for nothing: the
-//! first sheet that serves a vertex of a walk has no edge of it that isn't clear.
+//! So all that a judge has to keep of the searches is for each vertex up to which number they serve
+//! it. That a search is such a sheet is proved too (`law_of_search_sheets`): with the loops that it
+//! lists, and where it may go by other lengths at edges with an end in `off`.
 //!
 //! # Rounds
 //!
 //! A round of the finder goes on where the one before ended: it shows the numbers from there on. Its
 //! signatures are taken modulo the walks before, which may change what a class needs of these alone.
 //! That is looked at, too: if a round took them modulo a later walk, it would be blind to its class.
-//! And each round has cocycles of its own, which lie where it searched (`gauge`).
+//! And each round has cocycles of its own, which lie where it searched (`gauge`). These are proved to
+//! do as well (`law_of_tests` and `law_of_rounds` of `surf_sheetorder`).
 //!
 //! # The final test
 //!

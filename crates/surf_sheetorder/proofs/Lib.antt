@@ -1,0 +1,6 @@
+pub mod OffWalks
+pub mod Orders
+pub mod FirstBases
+pub mod RoundLaws
+pub mod Tests
+pub mod SearchSheets

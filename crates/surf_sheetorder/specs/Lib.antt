@@ -1,0 +1,4 @@
+pub mod Off
+pub mod Rounds
+pub mod Searches
+pub mod Laws
