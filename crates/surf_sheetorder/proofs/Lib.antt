@@ -3,4 +3,5 @@ pub mod Orders
 pub mod FirstBases
 pub mod RoundLaws
 pub mod Tests
+pub mod DualTests
 pub mod SearchSheets

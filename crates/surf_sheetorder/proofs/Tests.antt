@@ -1,11 +1,11 @@
 -- Linear tests of signatures are cocycles.
-use Rattle.surf_surfaces.proofs.Common.{◌≡◌, ℕ, bit_xor, ◌<◌, inl, inr, get_or, arith, Chain, IsClosed, ends, Bool, true, false, List, [], ◌∷◌, map, sym, ap, ◌∙◌, refl, AllByRecursion, recursion_from_All, numbers, sum_of, chosen, xor, odd, sides, steps, face_at, edge_number}
+use Rattle.surf_surfaces.proofs.Common.{◌≡◌, ℕ, bit_xor, inl, inr, get_or, arith, Chain, IsClosed, ends, Bool, true, false, List, [], ◌∷◌, map, sym, ap, ◌∙◌, refl, AllByRecursion, recursion_from_All, numbers, sum_of, chosen, xor, odd, sides, steps, face_at, edge_number}
 use Rattle.surf_surfaces.specs.Signature.{edge_signature}
 use Rattle.surf_surfaces.proofs.classes.SignatureLaws.{signatures_are_classes}
 use Rattle.surf_surfaces.proofs.walks.FaceWalkLaws.{faces_sum_to_zero}
 use Rattle.surf_sheets.specs.Sheets.{is_odd_on}
 use Rattle.surf_sheetorder.specs.Searches.{IsLinear, edges_passing}
-use Rattle.surf_sheetorder.specs.Laws.{TestsAreCocycles, TestsPairWalks, LabelledEdgesShow, SumsKeepTests}
+use Rattle.surf_sheetorder.specs.Laws.{TestsAreCocycles, TestsPairWalks, LabelledEdgesShow, SumsPassNone, SumsKeepTests}
 use Rattle.surf_sheetorder.proofs.Orders.{served_sets_show}
 use Rattle.surf_sheetorder.proofs.RoundLaws.{alike_sets_are_odd_alike}
 
@@ -38,6 +38,10 @@ no_sum test (true ∷ bs) (row ∷ rows) linear none =
     linear.sum row (sum_of numbers (chosen bs rows))
     ∙ ap (λ b. xor b (test (sum_of numbers (chosen bs rows)))) none.0
     ∙ no_sum test bs rows linear none.1
+
+pub sums_pass_none : SumsPassNone
+sums_pass_none test rows class linear none (choice, is) =
+    ap test (sym is) ∙ no_sum test choice rows linear (recursion_from_All (λ row. test row ≡ false) rows none)
 
 xor_none : (a b : Bool) → b ≡ false → xor a b ≡ a
 xor_none true b none = rw none refl

@@ -1,12 +1,13 @@
 -- What sheets show that leave out vertices, in an order and in rounds, and how a search is such a sheet.
-use Rattle.std.specs.Prelude.{◌≡◌, ℕ, ◌<◌, ◌≤◌, ◌⊎◌, Bool, true, false, bit_xor, IsTrue, List, length, map, All}
-use Rattle.surf_z2.specs.Space.{Chain, chosen, numbers, sum_of}
+use Rattle.std.specs.Prelude.{◌≡◌, ◌≢◌, ℕ, ◌<◌, ◌≤◌, ◌⊎◌, Bool, true, false, bit_xor, IsTrue, List, length, map, All}
+use Rattle.surf_z2.specs.Space.{Chain, Spanned, chosen, numbers, sum_of}
+use Rattle.surf_z2.specs.Sieve.{has}
 use Rattle.surf_graphs.specs.Cells.{Split, IsSplit}
 use Rattle.surf_graphs.specs.Trees.{Tree}
 use Rattle.surf_surfaces.specs.Mesh.{Mesh}
 use Rattle.surf_surfaces.specs.Surface.{edge_count, ends, IsSurface}
 use Rattle.surf_surfaces.specs.Walk.{IsClosed, ArePositive}
-use Rattle.surf_surfaces.specs.Homology.{IsLoopCount}
+use Rattle.surf_surfaces.specs.Homology.{IsNull, IsBasis, IsLoopCount}
 use Rattle.surf_surfaces.specs.Cells.{cells_of}
 use Rattle.surf_surfaces.specs.Class.{class_of, AreShortestTrees}
 use Rattle.surf_surfaces.specs.Loop.{loop_walk}
@@ -119,6 +120,14 @@ TestsPairWalks =
     ((i j : ℕ) → i < j → j < length walks → tests j (class_of mesh d (walk_at walks i)) ≡ false) →
     AreClaimed mesh lengths walks (λ i. edges_passing mesh d (tests i))
 
+-- A basis has linear tests of which the class of each walk passes its own alone.
+abbrev pub BasesHaveTests : Type 0
+BasesHaveTests =
+    (mesh : Mesh) (d : Split) (walks : List (List ℕ)) → IsSurface mesh → IsSplit (cells_of mesh) d → IsBasis mesh walks →
+    (tests : ℕ → ℕ → Bool) × ((i : ℕ) → IsLinear (tests i))
+    × ((i : ℕ) → i < length walks → tests i (class_of mesh d (walk_at walks i)) ≡ true)
+    × ((i j : ℕ) → i < length walks → j < length walks → i ≢ j → tests i (class_of mesh d (walk_at walks j)) ≡ false)
+
 -- A class at each vertex may be added to the signatures of all edges there. If then a place comes
 -- first at an end of each edge whose signature passes a linear test, it comes first among all
 -- closed walks whose classes pass it.
@@ -131,6 +140,22 @@ LabelledEdgesShow =
     ComesFirstAt mesh lengths (edges_passing mesh d test) place (ends mesh e).0
     ⊎ ComesFirstAt mesh lengths (edges_passing mesh d test) place (ends mesh e).1) →
     ComesFirst mesh lengths (edges_passing mesh d test) place
+
+-- Let a place come first among the closed walks whose signatures have a number, for each number of
+-- a left edge. Then no closed walk that isn't null comes sooner.
+abbrev pub NonnullWalksComeNoSooner : Type 0
+NonnullWalksComeNoSooner =
+    (mesh : Mesh) (d : Split) (lengths : List ℕ) (place : Place) → IsSurface mesh → IsSplit (cells_of mesh) d →
+    ((k : ℕ) → k < length d.left → ComesFirst mesh lengths (edges_passing mesh d (λ x. has x k)) place) →
+    (walk : List ℕ) → IsClosed mesh walk → (IsNull mesh walk → ⊥) →
+    IsTrue (is_no_later place (place_of_walk mesh lengths walk))
+
+-- A sum of classes that don't pass a linear test doesn't pass it. So what is a sum of the classes of
+-- the first walks passes the tests of these alone.
+abbrev pub SumsPassNone : Type 0
+SumsPassNone =
+    (test : ℕ → Bool) (rows : List ℕ) (class : ℕ) → IsLinear test → All (λ row. test row ≡ false) rows →
+    Spanned numbers rows class → test class ≡ false
 
 -- Classes may be taken up to sums of some that don't pass a linear test: it stays the same.
 abbrev pub SumsKeepTests : Type 0

@@ -31,7 +31,8 @@ ghost use Rattle.surf_sheetorder.specs.Laws.{SheetsShowMore, OrderedSheetsShow, 
 ghost use Rattle.surf_sheetorder.specs.Laws.{OrderedSheetsComeFirst, AlikeSetsAreOddAlike};
 ghost use Rattle.surf_sheetorder.specs.Laws.{FirstWalksHavePlacesOfBasis, RoundsShowFirst};
 ghost use Rattle.surf_sheetorder.specs.Laws.{RoundsHavePlacesOfBasis, TestsAreCocycles, TestsPairWalks};
-ghost use Rattle.surf_sheetorder.specs.Laws.{LabelledEdgesShow, SumsKeepTests};
+ghost use Rattle.surf_sheetorder.specs.Laws.{BasesHaveTests, LabelledEdgesShow, SumsPassNone};
+ghost use Rattle.surf_sheetorder.specs.Laws.{NonnullWalksComeNoSooner, SumsKeepTests};
 ghost use Rattle.surf_sheetorder.specs.Laws.{LoopsPastLaterPlaces, SearchesAreSheets, ListedLoopsShow};
 ghost use Rattle.surf_sheetorder.specs.Laws.{SearchesShowMore};
 
@@ -56,12 +57,17 @@ pub fn law_of_rounds()
 
 /// A linear test of signatures is a cocycle, and tells of closed walks by their classes whether
 /// they are odd on it. Tests of which each walk passes its own and no later one are paired with the
-/// walks. A class at each vertex may be added to the signatures of all edges there, and a test may
-/// be made of classes up to sums of some that don't pass it.
+/// walks, and a basis has such tests. A class at each vertex may be added to the signatures of all
+/// edges there. A closed walk that isn't null passes the test of some number of left edges. What is
+/// a sum of classes that don't pass a test doesn't pass it, so a test may be made of classes up to
+/// such sums.
 pub fn law_of_tests()
     ensures cocycles { TestsAreCocycles }
     ensures pair { TestsPairWalks }
+    ensures exist { BasesHaveTests }
     ensures labelled { LabelledEdgesShow }
+    ensures nonnull { NonnullWalksComeNoSooner }
+    ensures none { SumsPassNone }
     ensures sums { SumsKeepTests }
 {}
 
