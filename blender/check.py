@@ -1,14 +1,16 @@
 #!/usr/bin/env python3
 """Tries the add-on in Blender, without a window: check.py
 
+    check.py --built FOLDER             the zip that stands in a folder, with all its libraries
     check.py --blender PATH             another Blender than that on PATH
     check.py --program PATH             the program, crates/surf/out/surf without it
     check.py --library ARCHIVE          the library, crates/surf_c/out/libsurf_c.a without it
     check.py --pictures FOLDER          also draws the pictures of docs/blender.md there
 
-The add-on is tried over the program, and over the library where release/libraries.py has made it. Blender is no part
-of the set-up: where it or its numpy isn't here that is said, and nothing is tried. It runs with the system's PATH,
-since a Blender of the system looks for the folders of its Python beside the first `python3` on PATH.
+Where no folder is named, the add-on is tried over the program, and over the library where release/libraries.py has
+made it. Blender is no part of the set-up: where it or its numpy isn't here that is said, and nothing is tried. It runs
+with the system's PATH, since a Blender of the system looks for the folders of its Python beside the first `python3` on
+PATH.
 """
 
 import argparse
@@ -33,6 +35,14 @@ def zips(room, library):
         print(f"the add-on isn't tried over the library, since {[*missing, library.name][0]} isn't here")
     else:
         yield "library", make_addon.make(room / "library", library)
+
+
+def own_copy(folder, room):
+    """The zip that stands in a folder, in one of its own, beside which Blender's settings find their place."""
+    made = room / "built" / f"{make_addon.NAME}.zip"
+    made.parent.mkdir()
+    shutil.copy(folder / made.name, made)
+    return "library", made
 
 
 def plain_settings():
@@ -69,6 +79,7 @@ def tried(blender, way, made, program, pictures):
 
 def main():
     parser = argparse.ArgumentParser(description=__doc__, formatter_class=argparse.RawDescriptionHelpFormatter)
+    parser.add_argument("--built", type=pathlib.Path)
     parser.add_argument("--blender", default=shutil.which("blender"))
     parser.add_argument("--program", type=pathlib.Path, default=TOP / "crates/surf/out/surf")
     parser.add_argument("--library", type=pathlib.Path, default=TOP / "crates/surf_c/out/libsurf_c.a")
@@ -85,7 +96,8 @@ def main():
         return 1
     pictures = [given.pictures.resolve()] if given.pictures else []
     with tempfile.TemporaryDirectory() as room:
-        made = list(zips(pathlib.Path(room), given.library.resolve()))
+        room = pathlib.Path(room)
+        made = [own_copy(given.built, room)] if given.built else list(zips(room, given.library.resolve()))
         good = [tried(given.blender, way, path, given.program.resolve(), pictures) for way, path in made]
     return 0 if all(good) else 1
 

@@ -119,8 +119,12 @@ PARTS = [*native.TARGETS, "sdist", "node"]
 def lacking(part: str) -> str | None:
     """What isn't here for a part, in words, or nothing."""
     if part in native.TARGETS:
-        return native.lacking(native.TARGETS[part])
-    return "wasm2c isn't here" if part == "sdist" and not shutil.which("wasm2c") else wasm.lacking()
+        lack = native.lacking(native.TARGETS[part])
+    else:
+        lack = "wasm2c isn't here" if part == "sdist" and not shutil.which("wasm2c") else wasm.lacking()
+    if not lack and part != "node" and not packaging.found_interpreter():
+        return packaging.WITHOUT
+    return lack
 
 
 def make(part: str, to: pathlib.Path) -> str:
@@ -136,7 +140,7 @@ def main() -> int:
     parser.add_argument("part", choices=PARTS)
     parser.add_argument("--to", type=pathlib.Path, required=True)
     given = parser.parse_args()
-    lack = lacking(given.part)
+    lack = lacking(given.part) or (None if proof.PROGRAM.is_file() else "surf isn't built, whose version it would have")
     if lack:
         print(lack)
         return 1

@@ -101,6 +101,25 @@ class Words(unittest.TestCase):
             self.assertEqual(library["own_name"](systems[target.system], machine), target.library)
 
 
+class Lacking(unittest.TestCase):
+    """What isn't here is said, and nothing fails for it."""
+
+    def test_a_wheel_and_the_source_distribution_want_an_interpreter_with_what_makes_them(self):
+        with (
+            mock.patch.object(shutil, "which", lambda name: name),
+            mock.patch.object(make_parts.packaging, "found_interpreter", lambda: None),
+        ):
+            lacks = {part: make_parts.lacking(part) for part in make_parts.PARTS}
+        self.assertIsNone(lacks.pop("node"))
+        self.assertEqual(set(lacks.values()), {"an interpreter with numpy, pip, setuptools, venv, wheel isn't here"})
+
+    def test_each_part_says_its_tool(self):
+        due = {"linux-aarch64": "aarch64-linux-gnu-gcc", "sdist": "wasm2c", "node": "wasm-opt"}
+        for part, tool in due.items():
+            with mock.patch.object(shutil, "which", lambda name: None if name == tool else name):
+                self.assertEqual(make_parts.lacking(part), f"{tool} isn't here")
+
+
 class InC(unittest.TestCase):
     @unittest.skipUnless(COMPILER, "a compiler of C isn't here")
     def test_operations_and_calls(self):

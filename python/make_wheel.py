@@ -35,6 +35,7 @@ PAGE = TOP / "docs/refusals.md"
 ALLOWED = {"libc.so.6", "ld-linux-x86-64.so.2"}  # what the library may ask for, so that it runs on all Linux systems
 OLDEST = 17  # the least 2.N of the GNU C library that a tag can name
 MAKERS = ("numpy", "pip", "setuptools", "venv", "wheel")
+WITHOUT = f"an interpreter with {', '.join(MAKERS)} isn't here"
 
 
 class Kind(NamedTuple):
@@ -107,13 +108,21 @@ def describe(folder: pathlib.Path, kind: Kind) -> None:
         pathlib.Path(folder, name).write_text(text)
 
 
-def interpreter() -> str:
-    """An interpreter with all that a wheel is made by."""
+def found_interpreter() -> str | None:
+    """An interpreter with all that a wheel is made by, or nothing."""
     asked = f"import sys, importlib.util as util; sys.exit(not all(map(util.find_spec, {MAKERS})))"
     for path in (sys.executable, shutil.which("python3"), "/usr/bin/python3"):
         if path and os.path.exists(path) and subprocess.run([path, "-c", asked]).returncode == 0:
             return path
-    raise SystemExit(f"an interpreter with {', '.join(MAKERS)} isn't here")
+    return None
+
+
+def interpreter() -> str:
+    """The same. Where it isn't here, this ends with a word."""
+    found = found_interpreter()
+    if not found:
+        raise SystemExit(WITHOUT)
+    return found
 
 
 def made(python, inside, version, platform, kind, to):

@@ -6,10 +6,10 @@
 The gate is run first, unless --gate names what `.ci/run` or `rt ci` printed here before. Such a log has to be that of
 a gate that passed with the crates and wrong bodies of this checkout, no source and no program may be newer, and where
 it names a commit and a program, as `.ci/run` does, they have to be these. Then come the library, which `.ci/run` has
-left, the manual page and the completions, the tarball, the packages of Debian, and the wheel, the page and the add-on
-where the repository has them. The folder (release/out/) is there only if the trials over what was made pass: the
-worked cases on both programs, calls from C and Python, the wheel's tests, and the page's. The same commit gives the
-same bytes; files are dated to SOURCE_DATE_EPOCH, or to the commit.
+left, the manual page and the completions, the tarball, the packages of Debian, the wheel, the page, the add-on, and
+what is for other systems. The folder (release/out/) is there only if the trials over what was made pass: the worked
+cases on both programs, calls from C and Python, the tests of the wheel, of the page and of the add-on, and those of
+elsewhere/check.py. The same commit gives the same bytes; files are dated to SOURCE_DATE_EPOCH, or to the commit.
 """
 
 import argparse
@@ -43,7 +43,7 @@ class Other(NamedTuple):
 OTHERS = [
     Other("the wheel", ["python.make_wheel", "--to"], "*.whl"),
     Other("the page for browsers", ["web.make_page", "--to"], "surf.html", ["web.check", "--built"]),
-    Other("the add-on for Blender", ["blender.make_addon", "--to"], "*.zip"),
+    Other("the add-on for Blender", ["blender.make_addon", "--to"], "*.zip", ["blender.check", "--built"]),
 ]
 # For other systems: what elsewhere.make_parts makes by these names.
 ELSEWHERE = {
