@@ -1,27 +1,48 @@
 #!/usr/bin/env python3
 """Milliseconds that the package surfbasis takes beside the calls of the library, as a table in Markdown.
 
-    bench/python.py [--rows N] [--columns N] [--repeat N]
+    bench/python.py [--rows N] [--columns N] [--repeat N] [--installed]
 
 On a torus in space, of 316 by 317 vertices where no other is named. Milliseconds are of one processor (user and system
-of this process), the least of the repeats. The package has to be importable, with numpy: put it together by
-`python/make_wheel.py`, or install the wheel.
+of this process), the least of the repeats. The package is put together of this repository, with the library that
+`release/libraries.py` makes, and measured in an interpreter that has numpy: this one, `python3` or the system's. With
+`--installed` it is the package that this interpreter imports.
 """
 
 import argparse
+import os
+import subprocess
+import sys
+import tempfile
 import time
+from pathlib import Path
 
-import surfbasis
-from surfbasis import _callers, _texts
+from python import make_wheel
+from tools import TOP
+from tools.oracles import check_python
 
-from python.tests.support import torus
+
+def measured_apart(arguments):
+    """Runs this script with the package of this repository. Gives its status."""
+    python = check_python.interpreter()
+    if not python:
+        print("numpy isn't here: the package can't be measured")
+        return 1
+    make_wheel.libraries.make()
+    with tempfile.TemporaryDirectory() as name:
+        room = Path(name)
+        shared = room / "libsurf.so"
+        make_wheel.libraries.link_shared(shared, shared.name)
+        package = make_wheel.assemble(room / "src", {shared.name: shared})
+        words = [python, "-m", "bench.python", "--installed", *arguments]
+        return subprocess.run(words, cwd=TOP, env={**os.environ, "PYTHONPATH": str(package.parent)}).returncode
 
 
 class Timed:
     """A caller that adds up what its calls take."""
 
-    def __init__(self):
-        self.caller, self.seconds = _callers.default_caller(), 0.0
+    def __init__(self, caller):
+        self.caller, self.seconds = caller, 0.0
 
     def __call__(self, words, files, room):
         began = time.process_time()
@@ -41,21 +62,25 @@ def least(repeat, task, timed):
     return min(row[0] for row in found), min(row[1] for row in found)
 
 
-def main():
-    parser = argparse.ArgumentParser(description=__doc__, formatter_class=argparse.RawDescriptionHelpFormatter)
-    parser.add_argument("--rows", type=int, default=316)
-    parser.add_argument("--columns", type=int, default=317)
-    parser.add_argument("--repeat", type=int, default=5)
-    given = parser.parse_args()
+def measure(given):
+    """Prints the table, by the package that this interpreter imports."""
+    import surfbasis
+    from surfbasis import _callers, _texts
+
+    from python.tests.support import torus
+
     vertices, faces = torus(given.rows, given.columns)
     surface = surfbasis.Surface(vertices, faces)
-    timed = Timed()
+    timed = Timed(_callers.default_caller())
     surfbasis.use(timed)
     surface.loops()
     tasks = [
-        ("places to text", lambda: _texts.place_lines(surface.vertices)),
+        ("coordinates to text", lambda: _texts.place_lines(surface.vertices)),
         ("faces to text", surface._faces.text),
-        ("`Surface(vertices, faces).loops()`", lambda: surfbasis.Surface(vertices, faces).loops()),
+        (
+            "`Surface(vertices, faces).loops()`: `lengths` and `loops`",
+            lambda: surfbasis.Surface(vertices, faces).loops(),
+        ),
         ("`surface.loops()`, lengths known", surface.loops),
         ("`surface.distances()`, lengths known", surface.distances),
         ("`surface.cut()`, lengths known", surface.cut),
@@ -68,8 +93,22 @@ def main():
     print("|---|---|---|---|")
     for name, task in tasks:
         package, calls = least(given.repeat, task, timed)
-        print(f"| {name} | {package:.0f} | {calls:.0f} | {f'{package / calls:.2f}' if calls else ''} |")
+        beside = f"{calls:.0f} | {package / calls:.2f}" if calls else " | "
+        print(f"| {name} | {package:.0f} | {beside} |")
+
+
+def main():
+    parser = argparse.ArgumentParser(description=__doc__, formatter_class=argparse.RawDescriptionHelpFormatter)
+    parser.add_argument("--rows", type=int, default=316)
+    parser.add_argument("--columns", type=int, default=317)
+    parser.add_argument("--repeat", type=int, default=3)
+    parser.add_argument("--installed", action="store_true", help="the package that this interpreter imports")
+    given = parser.parse_args()
+    if not given.installed:
+        return measured_apart(sys.argv[1:])
+    measure(given)
+    return 0
 
 
 if __name__ == "__main__":
-    main()
+    sys.exit(main())

@@ -4,10 +4,11 @@
     bench/speed.py [--surf PROGRAM] [--plain] [--beside NAME=WORDS ..] [--repeat N] [--limit SECONDS] [COMMAND ..]
 
 Builds the program (`rt run` in crates/surf), unless one is named, makes tori and chains with `surf gen`, and runs each
-command on them. A mesh that is `shuffled` is a torus whose vertices and faces are numbered anew at random. Seconds are
-of one processor (user and system, the least of the repeats). Megabytes are the most that was resident; those below this
-script's own (some 12) aren't seen, since a program starts as its copy. A run that takes more than the limit is `late`.
-A row for two kinds of lengths has a figure for each, in their order, or one figure where both are equal.
+command on them. A mesh that is `shuffled` is a torus whose vertices and faces are numbered anew at random, and one that
+is `spaced` has two spaces between its numbers, so that its lines aren't read in one pass. Seconds are of one processor
+(user and system, the least of the repeats). Megabytes are the most that was resident; those below this script's own
+(some 12) aren't seen, since a program starts as its copy. A run that takes more than the limit is `late`. A row for two
+kinds of lengths has a figure for each, in their order, or one figure where both are equal.
 
 There is a table for commands that `bench/plain` has by the basic methods, one for bases, of which it has a sketch, and
 one for the rest. `--plain` builds it by cargo and puts it beside; then, if no command is named, the other tables of
@@ -32,12 +33,13 @@ from tools import TOP
 
 TORI = [f"torus {side} {side}" for side in (100, 300, 700)]
 LINEAR = [*TORI, "shuffled 700 700"]
+READ = [*LINEAR, "spaced 700 700"]
 FAR = ["torus 40 40", "torus 100 100", "torus 100 200", "chain 8 30 30", "chain 64 4 4"]
 
 # A command, the meshes that it is measured on by the words of `gen`, the scatter of its lengths (0: all are 1), what is
 # made first (None, or words whose answer is the file C), and its words, with M for the mesh and L for its lengths.
 BASIC = [
-    ("info", LINEAR, [0], None, "info M"),
+    ("info", READ, [0], None, "info M"),
     ("dist", LINEAR, [0, 1], None, "dist M L 0"),
     ("loops", LINEAR, [0, 1], None, "loops M L 0"),
     ("cut trim", LINEAR, [0, 1], None, "cut M L 0 trim"),
@@ -176,6 +178,15 @@ def write_shuffled(mesh, path):
     path.write_text("\n".join([keyword, counts, *vertex_lines, *face_lines, ""]))
 
 
+def write_spaced(mesh, path):
+    """The same mesh, with two spaces between numbers."""
+    path.write_text(Path(mesh).read_text().replace(" ", "  "))
+
+
+# How a torus is written anew, by the first word of a mesh.
+WRITTEN_ANEW = {"shuffled": write_shuffled, "spaced": write_spaced}
+
+
 def made_apart(make, *given):
     """Makes a file in a process of its own: what runs later begins with the memory of this one."""
     maker = multiprocessing.Process(target=make, args=given)
@@ -213,13 +224,14 @@ class Inputs:
         return names
 
     def mesh(self, given):
-        """The mesh of the words of `gen`, or of `shuffled` and the counts of a torus."""
-        if given[0] != "shuffled":
+        """The mesh of the words of `gen`, or of a word of WRITTEN_ANEW and the counts of a torus."""
+        if given[0] not in WRITTEN_ANEW:
             return self.answer_of(["gen", *given], "off")
-        key = ("shuffled", *given)
+        key = ("written anew", *given)
         if key not in self.made:
+            torus = self.answer_of(["gen", "torus", *given[1:]], "off")
             path = self.work / f"{len(self.made)}.off"
-            made_apart(write_shuffled, self.answer_of(["gen", "torus", *given[1:]], "off"), path)
+            made_apart(WRITTEN_ANEW[given[0]], torus, path)
             self.made[key] = str(path)
         return self.made[key]
 
