@@ -3,12 +3,13 @@
 
     bench/speed.py [--surf PROGRAM] [--plain] [--beside NAME=WORDS ..] [--repeat N] [--limit SECONDS] [COMMAND ..]
 
-Builds the program (`rt run` in crates/surf), unless one is named, makes tori and chains with `surf gen`, and runs each
-command on them. A mesh that is `shuffled` is a torus whose vertices and faces are numbered anew at random, and one that
-is `spaced` has two spaces between its numbers, so that its lines aren't read in one pass. Seconds are of one processor
-(user and system, the least of the repeats). Megabytes are the most that was resident; those below this script's own
-(some 12) aren't seen, since a program starts as its copy. A run that takes more than the limit is `late`. A row for two
-kinds of lengths has a figure for each, in their order, or one figure where both are equal.
+Takes the program that a gate left, or else builds it (`rt run` in crates/surf), unless one is named, makes tori and
+chains with `surf gen`, and runs each command on them. A mesh that is `shuffled` is a torus whose vertices and faces are
+numbered anew at random, and one that is `spaced` has two spaces between its numbers, so that its lines aren't read in
+one pass. Seconds are of one processor (user and system, the least of the repeats). Megabytes are the most that was
+resident; those below this script's own (some 12) aren't seen, since a program starts as its copy. A run that takes more
+than the limit is `late`. A row for two kinds of lengths has a figure for each, in their order, or one figure where both
+are equal.
 
 There is a table for commands that `bench/plain` has by the basic methods, one for bases, of which it has a sketch, and
 one for the rest. `--plain` builds it by cargo and puts it beside; then, if no command is named, the other tables of
@@ -29,6 +30,7 @@ import sys
 import tempfile
 from pathlib import Path
 
+from release import proof
 from tools import TOP
 
 TORI = [f"torus {side} {side}" for side in (100, 300, 700)]
@@ -71,9 +73,11 @@ class Refused(Exception):
 
 
 def built():
-    """The program of this repository, built."""
-    subprocess.run(["rt", "run", "--", "--version"], cwd=TOP / "crates" / "surf", check=True, stdout=sys.stderr)
-    return TOP / "crates" / "surf" / "out" / "surf"
+    """The program of this repository: what a gate left there, if no source is newer, or else what `rt run` builds."""
+    program = proof.PROGRAM
+    if not program.exists() or program.stat().st_mtime < proof.newest_source(TOP):
+        subprocess.run(["rt", "run", "--", "--version"], cwd=TOP / "crates" / "surf", check=True, stdout=sys.stderr)
+    return program
 
 
 def plain_built():
