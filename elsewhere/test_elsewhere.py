@@ -12,7 +12,7 @@ import tempfile
 import unittest
 from unittest import mock
 
-from elsewhere import file_words, make_parts, native, portable
+from elsewhere import file_words, make_parts, native, portable, times
 from elsewhere.native import Refused, modules
 from tools import TOP
 
@@ -207,6 +207,25 @@ class Portable(unittest.TestCase):
                          ("Z_surfZ_surf_take", "Z_surfZ_other")):  # fmt: skip
             with self.assertRaises(portable.Stopped, msg=new):
                 portable.source_of(portable.read(WRITTEN.replace(old, new)))
+
+
+class Times(unittest.TestCase):
+    def test_a_way_without_its_tool_is_passed_over(self):
+        with tempfile.TemporaryDirectory() as room, contextlib.redirect_stdout(io.StringIO()) as said:
+            with mock.patch.object(shutil, "which", lambda name: None if name in ("rt", "node") else name):
+                self.assertEqual(times.ways(pathlib.Path(room)), {})
+        self.assertEqual(said.getvalue().count("isn't measured, since rt isn't here"), len(times.WAYS))
+
+    def test_the_greatest_ratio_and_the_most_memory_of_each_way(self):
+        def run(seconds, megabytes):
+            found = times.speed.Runner([], None)
+            found.least = seconds, megabytes
+            return found
+
+        with contextlib.redirect_stdout(io.StringIO()) as said:
+            all_runs = [[run(1.0, 10), run(1.5, 40)], [run(2.0, 30), run(2.2, 20)]]
+            times.print_greatest(all_runs, ["program", "C"])
+        self.assertEqual(said.getvalue(), "\nthe greatest ratios: C 1.50\nthe most MB: program 30, C 40\n")
 
 
 if __name__ == "__main__":
