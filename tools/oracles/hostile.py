@@ -6,10 +6,11 @@
     hostile.py [PROGRAM] --only WORD      only the trials of WORD_runs
 
 PROGRAM is crates/surf/out/surf where none is named. Wanted of every run: a status of the table of docs/formats.md;
-standard output only with 0 and 1; nothing on standard error with these, and else one line that the status allows; no
-signal; an end within a minute, on great texts within ten. Which answer is right is not asked here, but where the
-answer of a run without faults is known. N is how many random texts and spoiled copies of each file of each command
-there are, 1,000 where nothing is said; of other meshes there are a tenth as many. What is random has a fixed seed.
+standard output only with 0 and 1, and before a write fault with 10; nothing on standard error with 0 and 1, and else
+one line that the status allows; no signal; an end within a minute, on great texts within ten. Which answer is right is
+not asked here, but where the answer of a run without faults is known. N is how many random texts and spoiled copies of
+each file of each command there are, 1,000 where nothing is said; of other meshes there are a tenth as many. What is
+random has a fixed seed.
 """
 
 import argparse
