@@ -1,0 +1,14 @@
+pub mod Holding
+pub mod MeshTexts
+pub mod MeshCounts
+pub mod LengthTexts
+pub mod WalkTexts
+pub mod SewTexts
+pub mod Shapes
+pub mod Ends
+pub mod Found
+pub mod Judged
+pub mod Written
+pub mod Steps
+pub mod Requests
+pub mod Existing
