@@ -22,7 +22,8 @@ use Rattle.surf_treecheck.specs.declared.fault.CertFault.TheVariants as cert
 abbrev pub HasSurfaceFault : Mesh → Type 0
 HasSurfaceFault mesh = (fault : SurfaceFault) × (fault ≢ surface.Memory) × IsSurfaceFault mesh fault
 
--- A mesh is a surface, or it has a first fault.
+-- A mesh each of whose faces has three corners or more, all different and all vertices, is a surface, or it has a
+-- first fault.
 abbrev pub SurfacesAreTold : Type 0
 SurfacesAreTold = (mesh : Mesh) → IsMesh mesh → IsSurface mesh ⊎ HasSurfaceFault mesh
 
@@ -30,7 +31,8 @@ SurfacesAreTold = (mesh : Mesh) → IsMesh mesh → IsSurface mesh ⊎ HasSurfac
 abbrev pub HasDiscFault : Mesh → Type 0
 HasDiscFault mesh = (fault : DiscFault) × (fault ≢ disc.Memory) × IsDiscFault mesh fault
 
--- A mesh is a disc, or it has a first fault.
+-- A mesh each of whose faces has three corners or more, all different and all vertices, is a disc, or it has a first
+-- fault.
 abbrev pub DiscsAreTold : Type 0
 DiscsAreTold = (mesh : Mesh) → IsMesh mesh → IsDisc mesh ⊎ HasDiscFault mesh
 
