@@ -72,6 +72,7 @@ CHECKS = [
     Check("tools.users.test_viewfiles"),
     Check("tools.house.test_reach"),
     Check("tools.house.test_checks"),
+    Check("tools.house.test_contracts"),
     Check("bench.test_bench"),
     Check("elsewhere.test_elsewhere"),
     Check("tools.house.wrong_bodies --check"),

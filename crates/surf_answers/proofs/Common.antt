@@ -2,12 +2,9 @@
 -- and their lemmas.
 pub use Rattle.surf_answers.proofs.Saying.{ends_as, page_answered, page_stopped}
 pub use Rattle.surf_answers.specs.Certificates.{GivesBasisCert, GivesLoopCert, IsTheLoopCert}
-pub use Rattle.surf_answers.specs.ChosenDesks.{IsChosenDesk}
 pub use Rattle.surf_answers.specs.Classes.{GivesClass, evidence_words}
 pub use Rattle.surf_answers.specs.Cuts.{CutsAt, GivesOpened, IsCutAt, IsNearAt, cut_text}
-pub use Rattle.surf_answers.specs.CycleTexts.{cycle_found_line, found_text}
 pub use Rattle.surf_answers.specs.Distances.{GivesDistances}
-pub use Rattle.surf_answers.specs.HeadTexts.{head_line, heads_text, loop_heads_text}
 pub use Rattle.surf_answers.specs.Info.{HasGenus, Informs}
 pub use Rattle.surf_answers.specs.LeastBasis.{GivesBasis}
 pub use Rattle.surf_answers.specs.LeastLoops.{GivesLoops}
@@ -18,23 +15,14 @@ pub use Rattle.surf_answers.specs.Summaries.{BasisTotals, CycleMeasures, GivesSu
 pub use Rattle.surf_answers.specs.Tells.{Concludes, ConcludesOver, IsTold, Takes, TakesOver, Why, WhyOver}
 pub use Rattle.surf_answers.specs.Tells.{verdict_status}
 pub use Rattle.surf_base.specs.declared.limits.LimitKind.TheVariants.{BasisVertices, CertificateVertices, Loops}
-pub use Rattle.surf_basis.proofs.First.{first_listed}
-pub use Rattle.surf_basis.specs.Cycles.{AllSeparate, IsFirstCandidate, IsShortestCycle, IsTheBasis, as_loop, as_loops}
-pub use Rattle.surf_basis.specs.Cycles.{first_of}
-pub use Rattle.surf_basis.specs.declared.cycle.Cycle.{Cycle}
 pub use Rattle.surf_cert.specs.Written.{basis_text, loop_text}
 pub use Rattle.surf_class.specs.Seen.{seen}
 pub use Rattle.surf_class.specs.Texts.{EvidenceFits, both_ends, evidence_head_text, evidence_text}
 pub use Rattle.surf_classes.specs.Evidence.{AreClosed, Evidence, IsChosen, IsClassEvidence, IsEvidence, has_odd_sides}
 pub use Rattle.surf_classes.specs.Evidence.{is_listed, joint_parity, null_faces, odd_pairs}
-pub use Rattle.surf_cotree.specs.Grown.{IsMarked}
-pub use Rattle.surf_cotree.specs.Tables.{CotreeTables, cotree_of, split_with}
 pub use Rattle.surf_cutter.specs.Kinds.{IsOpeningOf, Kind, full, is_point, points_of, through, trimmed}
-pub use Rattle.surf_cutter.specs.Opened.{IsChosenFor, IsHeld, IsNearFor, OpenMesh}
 pub use Rattle.surf_lengths.proofs.Positive.{lengths_positive}
 pub use Rattle.surf_lengths.specs.Lengths.{AreLengths}
-pub use Rattle.surf_loops.specs.Loops.{IsGreedy, LoopTables, loop_of, trees_of, with_cotree}
-pub use Rattle.surf_loops.specs.declared.head.LoopHead.{LoopHead}
 pub use Rattle.surf_off.proofs.FaceRows.{other_default, short_rows}
 pub use Rattle.surf_off.specs.Written.{AreStarts, RereadsOpened, RereadsSoup, opened_text, rows_at, soup_text}
 pub use Rattle.surf_opening.specs.ChosenCut.{AreDivided, full_cut}
@@ -43,19 +31,20 @@ pub use Rattle.surf_surfaces.proofs.Common.{All, All-from_get_or, All-from_recur
 pub use Rattle.surf_surfaces.proofs.Common.{AllPairs, AreChosen, AreChosenAt, ArePositive, Bool, Chain, Contains, Err}
 pub use Rattle.surf_surfaces.proofs.Common.{HasCorner, HasOneFan, IfOk, IfSome, IsBorderEdge, IsChosenBasis, IsClosed}
 pub use Rattle.surf_surfaces.proofs.Common.{IsConnected, IsErrAnd, IsFace, IsLoopCount, IsMesh, IsSplit, IsSurface}
-pub use Rattle.surf_surfaces.proofs.Common.{Joined, LeastSimpleBasis, List, Loop, Mesh, None, Ok, Option, Result, Share}
-pub use Rattle.surf_surfaces.proofs.Common.{ShareAt, ShareOnBorder, Some, Split, Tree, Trees, [], among, and_parts, ap}
-pub use Rattle.surf_surfaces.proofs.Common.{append_assoc, arith, boundary, bytes_eq, candidates, cases_Bool, cases_eq}
-pub use Rattle.surf_surfaces.proofs.Common.{cases_lt, cases_order, cells_of, characteristic, codes, common_steps}
-pub use Rattle.surf_surfaces.proofs.Common.{count_below-same, decimal, edge_count, edge_number, edges, ends, eqb-true}
-pub use Rattle.surf_surfaces.proofs.Common.{err_from_is_err_and, face_at, face_count, faces_with, false, flat_map}
-pub use Rattle.surf_surfaces.proofs.Common.{get_or, get_or-map, get_or-map-range_with_len, get_or_default}
-pub use Rattle.surf_surfaces.proofs.Common.{if◌then◌else◌, inl, inr, leb-true, length, length-map, list_any, loop_count}
-pub use Rattle.surf_surfaces.proofs.Common.{loops_at, map, nat_le, nat_lt, ne_eqb, option_copied, option_map, pair_eq}
-pub use Rattle.surf_surfaces.proofs.Common.{pair_lt, parity, recursion_from_All, refl, replicate, rules, slice_index}
-pub use Rattle.surf_surfaces.proofs.Common.{split_of, subst, suc, sum, sym, take, true, true≢false, walk_length, zero}
-pub use Rattle.surf_surfaces.proofs.Common.{ℕ, ◌%◌, ◌&&◌, ◌*◌, ◌++◌, ◌+◌, ◌/◌, ◌<◌, ◌==◌, ◌^◌, ◌||◌, ◌↔◌, ◌∙◌, ◌∷◌, ◌≡◌}
-pub use Rattle.surf_surfaces.proofs.Common.{◌≢◌, ◌≤◌, ◌⊎◌}
+pub use Rattle.surf_surfaces.proofs.Common.{Joined, LeastSimpleBasis, List, Loop, Mesh, None, Ok, Option, Result}
+pub use Rattle.surf_surfaces.proofs.Common.{Share, ShareAt, ShareOnBorder, Some, Split, Tree, Trees, [], among}
+pub use Rattle.surf_surfaces.proofs.Common.{and_parts, ap, append_assoc, arith, boundary, bytes_eq, candidates}
+pub use Rattle.surf_surfaces.proofs.Common.{cases_Bool, cases_eq, cases_lt, cases_order, cells_of, characteristic}
+pub use Rattle.surf_surfaces.proofs.Common.{codes, common_steps, count_below-same, decimal, edge_count, edge_number}
+pub use Rattle.surf_surfaces.proofs.Common.{edges, ends, eqb-true, err_from_is_err_and, face_at, face_count}
+pub use Rattle.surf_surfaces.proofs.Common.{faces_with, false, flat_map, get_or, get_or-map}
+pub use Rattle.surf_surfaces.proofs.Common.{get_or-map-range_with_len, get_or_default, if◌then◌else◌, inl, inr}
+pub use Rattle.surf_surfaces.proofs.Common.{leb-true, length, length-map, list_any, loop_count, loops_at, map, nat_le}
+pub use Rattle.surf_surfaces.proofs.Common.{nat_lt, ne_eqb, option_copied, option_map, pair_eq, pair_lt, parity}
+pub use Rattle.surf_surfaces.proofs.Common.{recursion_from_All, refl, replicate, rules, slice_index, split_of, subst}
+pub use Rattle.surf_surfaces.proofs.Common.{suc, sum, sym, take, true, true≢false, walk_length, zero, ℕ, ◌%◌, ◌&&◌}
+pub use Rattle.surf_surfaces.proofs.Common.{◌*◌, ◌++◌, ◌+◌, ◌/◌, ◌<◌, ◌==◌, ◌^◌, ◌||◌, ◌↔◌, ◌∙◌, ◌∷◌, ◌≡◌, ◌≢◌, ◌≤◌}
+pub use Rattle.surf_surfaces.proofs.Common.{◌⊎◌}
 pub use Rattle.surf_surfaces.proofs.bases.ChoiceExists.{choice_exists}
 pub use Rattle.surf_surfaces.proofs.classes.ClassLaws.{some_vertex}
 pub use Rattle.surf_surfaces.proofs.meshes.EdgeLaws.{among-contains, edges-rise, list_any_at, rising_at}

@@ -1,11 +1,7 @@
+pub mod Commands
 pub mod Common
-mod CertifyLaws
-mod CopyLines
-mod CutLaws
-mod CycleLaws
-mod FindingLaws
-mod HeadLaws
+pub mod Composing
+pub mod Fronts
+pub mod LengthLaws
 pub mod Saying
-mod SideLaws
-mod ChosenLaws
-mod SummaryLaws
+pub mod TextsAt

@@ -13,7 +13,7 @@ use surf_mesh::Surface;
 use surf_texts::{Refused, counts_text, crosscaps_text, genus_text, kind_counts_text};
 
 /// The counts of a surface, its characteristic, and its genus or its crosscaps.
-pub(crate) fn info_of(alloc: Global, mesh: &Surface) -> Result<Answered, Refused>
+pub fn info_of(alloc: Global, mesh: &Surface) -> Result<Answered, Refused>
     ensures { Concludes (Informs mesh.now) result }
 {
     match orient_surface(alloc, mesh)? {

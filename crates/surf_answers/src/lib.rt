@@ -1,39 +1,22 @@
-//! What is answered of a surface, with lengths, a base or a walk. No call here reaches a file.
+//! What is answered: its definitions, how each command comes to it, and the steps that commands share.
 #![tactic(auto)]
 
-mod about;
 mod answered;
-mod basis;
-mod certificates;
-mod classes;
-mod cut;
-mod cycle;
-mod desk;
-mod disc;
-mod distances;
-mod evidence;
 mod info;
-mod loops;
-mod meshes;
-mod sewing;
-mod summary;
-mod verdicts;
-mod walk;
+mod lengths;
+mod limits;
+mod made;
+mod reading;
+mod surfaces;
+mod walks;
 
-pub use about::{help, version};
 pub use answered::{Answered, Verdict};
-pub use basis::basis_of;
-pub use certificates::{basis_cert_of, loop_cert_of};
-pub use classes::class_of;
-pub use cut::{disc_at, disc_text};
-pub use cycle::cycle_of;
-pub use disc::{disc_of, not_disc};
-pub use distances::dist_of;
-pub use evidence::judge_evidence;
-pub use info::{kind_info_of, loop_count};
-pub use loops::loops_of;
-pub use meshes::made_of;
-pub use sewing::sewn_text;
-pub use summary::summary_of;
-pub use verdicts::judge;
-pub use walk::shortest_of;
+pub use info::{info_of, kind_info_of, loop_count};
+pub use lengths::{base_of, lengths_named};
+pub use limits::{at_most, test_loops};
+pub use made::{build, build_surface, test_faces, test_search, test_shape_loops, test_vertices};
+pub use reading::{
+    kind_at, mesh_at, read_file, read_front, read_mesh, surface_at, surface_of, surface_through,
+};
+pub use surfaces::{measured_surface, small_surface};
+pub use walks::walk_named;

@@ -4,7 +4,7 @@ use Rattle.surf_base.specs.declared.limits.LimitKind.{LimitKind}
 use Rattle.surf_texts.specs.Limits.{beyond}
 use Rattle.surf_texts.specs.Outcome.{Outcome}
 use Rattle.surf_answers.specs.Says.{Says}
-use Rattle.surf_run.specs.Steps.{AtMost, Ends, goes, stops}
+use Rattle.surf_answers.specs.Steps.{AtMost, Ends, goes, stops}
 
 -- an outcome comes of it
 abbrev pub HasOutcome : (Outcome → Type 0) → Type 0

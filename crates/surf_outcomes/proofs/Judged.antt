@@ -16,7 +16,7 @@ use Rattle.surf_texts.specs.Faults.{TellsFault}
 use Rattle.surf_answers.specs.Confirming.{JudgesEvidence, SaysWrong}
 use Rattle.surf_answers.specs.Discs.{JudgesDisc, SaysNoDisc}
 use Rattle.surf_answers.specs.Verdicts.{JudgesCert, SaysLoops, SaysBasis}
-use Rattle.surf_run.specs.Reading.{IsSurfaceOf}
+use Rattle.surf_answers.specs.Reading.{IsSurfaceOf}
 use Rattle.surf_decided.proofs.Certificates.{loops_or_fault, basis_or_fault}
 use Rattle.surf_decided.specs.Told.{HasDiscFault}
 use Rattle.surf_decided.proofs.Discs.{disc_or_fault}

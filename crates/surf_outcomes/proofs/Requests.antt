@@ -16,9 +16,9 @@ use Rattle.surf_words.specs.Words.{Request, help, version, info, dist, loops, ba
 use Rattle.surf_words.specs.Words.{large_basis, large_cycle, large_shortest}
 use Rattle.surf_words.specs.Words.{confirm, shortest, certify_loops, certify_basis, check, lengths, gen_shape, try_shape, Extent}
 use Rattle.surf_gen.specs.Made.{made_values}
-use Rattle.surf_run.specs.Commands.{OnRequest}
-use Rattle.surf_run.specs.Fronts.{OnText, OnSurface, OnFewLoops, OnMeasured, OnBased, OnSmall, OnCovered}
-use Rattle.surf_run.specs.Reading.{Reads, IsMeshText, within_text, kind_named, tree_count}
+use Rattle.surf_answers.specs.Commands.{OnRequest}
+use Rattle.surf_answers.specs.Fronts.{OnText, OnSurface, OnFewLoops, OnMeasured, OnBased, OnSmall, OnCovered}
+use Rattle.surf_answers.specs.Reading.{Reads, IsMeshText, within_text, kind_named, tree_count}
 use Rattle.surf_answers.specs.ShortestWalk.{GivesShortestWalk}
 use Rattle.surf_outcomes.proofs.Ends.{HasOutcome, HasResult, then_ends, stated, within}
 use Rattle.surf_outcomes.proofs.Found.{informs, gives_distances, gives_loops, gives_loop_cert, gives_basis, gives_basis_cert, gives_cycle, gives_shortest, gives_summary, gives_class}

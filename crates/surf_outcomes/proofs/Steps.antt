@@ -27,9 +27,9 @@ use Rattle.surf_texts.specs.declared.walks.WalkFile.{WalkFile}
 use Rattle.surf_words.specs.Words.{Extent, fully}
 use Rattle.surf_words.specs.Words.{trimmed as trimmed_words, through as through_words}
 use Rattle.surf_answers.specs.Lengths.{Measures}
-use Rattle.surf_run.specs.Reading.{IsMeshText, IsSurfaceText, HasLengths, lengths_for, HasBase, HasWalk, walk_named, HasKind, IsEvidenceText, within_text}
-use Rattle.surf_run.specs.Sewing.{HasOrigins, IsSewn}
-use Rattle.surf_run.specs.Steps.{and_then}
+use Rattle.surf_answers.specs.Reading.{IsMeshText, IsSurfaceText, HasLengths, lengths_for, HasBase, HasWalk, walk_named, HasKind, IsEvidenceText, within_text}
+use Rattle.surf_answers.specs.SewingSteps.{HasOrigins, IsSewn}
+use Rattle.surf_answers.specs.Steps.{and_then}
 use Rattle.surf_decided.proofs.Surfaces.{surface_or_fault}
 use Rattle.surf_outcomes.proofs.Ends.{HasResult}
 use Rattle.surf_outcomes.proofs.Judged.{told}

@@ -31,7 +31,7 @@ use Rattle.surf_answers.specs.Cuts.{CutsAt, IsCutAt, IsNearAt, GivesOpened}
 use Rattle.surf_answers.specs.Lengths.{GivesLengths}
 use Rattle.surf_answers.specs.Making.{GivesMesh}
 use Rattle.surf_answers.specs.Sewing.{GivesSewn}
-use Rattle.surf_run.specs.Sewing.{OnSewnMesh}
+use Rattle.surf_answers.specs.SewingSteps.{OnSewnMesh}
 use Rattle.surf_words.specs.Shapes.{Shape, IsShape, mesh_of}
 use Rattle.surf_decided.proofs.Deciding.{when_less}
 use Rattle.surf_decided.proofs.Discs.{disc_or_fault}

@@ -1,6 +1,8 @@
 -- What `class` writes is confirmed.
 use Rattle.surf_answers.proofs.Common.{◌≡◌, ◌≤◌, ℕ, List, [], ◌∷◌, length, Some, None, Ok, refl, sym, ap, ◌∙◌, subst, arith, inl, codes, Mesh, face_count, edge_count, loop_count, Loops, evidence_text, Evidence, GivesClass, Outcome, answers, refused_by}
-use Rattle.surf_run.proofs.Common.{Files, bytes_of, evidence_in, OffParts, off_of, evidence_cause, right_line, off_cause, Answer, Reads, IsSurfaceText, HasWalk, goes, First}
+use Rattle.surf_answers.proofs.Commands.{Files, bytes_of, evidence_in, OffParts, off_of, evidence_cause, right_line}
+use Rattle.surf_answers.proofs.Commands.{off_cause, Reads, IsSurfaceText, HasWalk, goes, First}
+use Rattle.surf_run.proofs.Common.{Answer}
 use Rattle.surf_class.proofs.Rereading.{evidence_again}
 use Rattle.surf_run.specs.Leads.{Leads}
 use Rattle.surf_run.specs.TwoRuns.{ClassesAreConfirmed}

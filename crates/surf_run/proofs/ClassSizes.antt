@@ -1,6 +1,6 @@
 -- Right evidence fits the line of a text, and how long that is.
 use Rattle.surf_answers.proofs.Common.{◌≡◌, ◌<◌, ◌≤◌, ◌+◌, ◌*◌, ◌++◌, ℕ, zero, suc, true, List, [], ◌∷◌, length, get_or, map, refl, sym, ap, ◌∙◌, subst, arith, inl, inr, codes, decimal, cases_order, get_or_default, get_or-map, length-map, recursion_from_All, Mesh, IsMesh, pair_lt, edges, face_count, edge_count, ends, edge_number, Chain, All, AllPairs, Contains, AllByRecursion, evidence_head_text, both_ends, evidence_text, EvidenceFits, Evidence, null_faces, odd_pairs, IsEvidence, edges-rise, rising_at, among-contains, pair_lt-trans, pair_lt-irreflexive}
-use Rattle.surf_run.proofs.Common.{numbers_text}
+use Rattle.surf_answers.proofs.Commands.{numbers_text}
 use Rattle.surf_records.specs.Fits.{IsNumber, IsPair}
 use Rattle.surf_surfaces.proofs.LawProofs.{edges_are_numbered}
 use Rattle.surf_surfaces.proofs.meshes.SurfaceLaws.{edge_below}

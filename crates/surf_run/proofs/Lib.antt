@@ -2,11 +2,7 @@ mod CertSizes
 mod ClassRuns
 mod ClassSizes
 mod Common
-mod Composing
-mod Cutting
 mod CycleLaws
-mod Fronts
-mod LengthLaws
 mod MeshReads
 mod Named
 mod OneCut
@@ -21,6 +17,5 @@ mod SewnRuns
 mod ShapeWords
 mod StepLaws
 mod TextLaws
-mod TextsAt
 mod TwoRuns
 mod Unique

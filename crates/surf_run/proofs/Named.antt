@@ -1,6 +1,6 @@
 -- What comes of words depends on the files that they name alone.
 use Rattle.surf_answers.proofs.Common.{recursion_from_All}
-use Rattle.surf_run.proofs.Common.{request_of, named}
+use Rattle.surf_answers.proofs.Commands.{request_of, named}
 use Rattle.surf_run.specs.Leads.{Leads}
 use Rattle.surf_run.specs.Named.{AnswersDependOnNamedFiles}
 use Rattle.surf_run.proofs.Rows.{rows_are_settled}

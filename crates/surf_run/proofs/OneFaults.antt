@@ -1,6 +1,6 @@
 -- The first fault of a mesh that is no surface, or no disc, and that of evidence is one.
 use Rattle.surf_answers.proofs.Common.{◌≡◌, ◌≢◌, ℕ, zero, suc, ◌+◌, ◌<◌, ◌≤◌, true, false, List, [], ◌∷◌, length, get_or, take, refl, sym, ap, ◌∙◌, subst, arith, inl, inr, ◌==◌, cases_Bool, cases_eq, true≢false, eqb-true, boundary, Joined, Mesh, pair_lt, pair_eq, among, edges, face_count, edge_count, ends, faces_with, HasCorner, Share, ShareAt, HasOneFan, IsConnected, Chain, IsBorderEdge, ShareOnBorder, is_listed, has_odd_sides, Evidence, null_faces, odd_pairs, among-contains, list_any_at, pair_eq-true, pair_lt-total}
-use Rattle.surf_run.proofs.Common.{SurfaceFault}
+use Rattle.surf_answers.proofs.Commands.{SurfaceFault}
 use Rattle.surf_treecheck.specs.First.{HoldsBelow, FailsFirst}
 use Rattle.surf_treecheck.proofs.FirstFault.{first_same}
 use Rattle.surf_check.specs.Fault.{IsSurfaceFault}

@@ -1,6 +1,8 @@
 -- Each line that says why there is no answer is one line.
 use Rattle.surf_answers.proofs.Common.{◌≡◌, ◌+◌, ◌/◌, ◌%◌, ℕ, zero, suc, Bool, true, false, List, [], ◌∷◌, ◌++◌, refl, sym, ap, ◌∙◌, append_assoc, arith, inl, inr, nat_lt, if◌then◌else◌, codes, decimal, ◌==◌, list_any, cases_Bool, ne_eqb, Cause, due, unread, starved, misused, line_of, limit_name, answers, refuses, misses}
-use Rattle.surf_run.proofs.Common.{LimitKind, numbers_text, numbered, is_line_end, IsOneLine, file_words, WalkFile, First, Second}
+use Rattle.surf_answers.proofs.Commands.{LimitKind, numbers_text, numbered, is_line_end, file_words, WalkFile, First}
+use Rattle.surf_answers.proofs.Commands.{Second}
+use Rattle.surf_run.proofs.Common.{IsOneLine}
 use Rattle.std.specs.Fmt.{digits, digit_glyph, digits_onto}
 use Rattle.surf_base.specs.declared.limits.LimitKind.TheVariants as limits
 use Rattle.surf_off.proofs.NumberLines.{none_append}

@@ -1,6 +1,8 @@
 -- What is answered of a surface, a mesh or a certificate is one outcome.
 use Rattle.surf_answers.proofs.Common.{◌≡◌, inl, inr, ℕ, ◌++◌, List, [], Option, refl, sym, ◌∙◌, ap, arith, length, nat_lt, if◌then◌else◌, codes, IsSurface, ArePositive, IsClosed, parity, walk_length, Loop, loops_at, Mesh, characteristic, Outcome, answers, refuses, misses, GivesSummary, refused_by, Informs, Says, beyond, loop_text, basis_text, chosen_cert, basis_cert_of, measured_line, measured_text, texts_same, evidence_text, Evidence, AreClosed, evidence_words, GivesClass, GivesDistances, GivesLoops, GivesBasis, GivesCycle, GivesLoopCert, GivesBasisCert}
-use Rattle.surf_run.proofs.Common.{IsEvidenceText, OffParts, JudgesCert, bases_are_one, chosen_basis_certs_are_one, OnSewnMesh, evidence_in, evidence_cause}
+use Rattle.surf_answers.proofs.Commands.{IsEvidenceText, OffParts, JudgesCert, OnSewnMesh, evidence_in}
+use Rattle.surf_answers.proofs.Commands.{evidence_cause}
+use Rattle.surf_run.proofs.Common.{bases_are_one, chosen_basis_certs_are_one}
 use Rattle.surf_texts.specs.SummaryTexts.{measures_text, mesh_counts, kind_text}
 use Rattle.surf_answers.specs.Summaries.{LoopsTotal, BasisTotals, CycleMeasures, total_size}
 use Rattle.surf_disc.proofs.FaultLaws.{fault_only as disc_fault_only}

@@ -1,6 +1,10 @@
 -- Each refusal: its status is from 2 to 8 or from 12 on, and it has one line.
 use Rattle.surf_answers.proofs.Common.{◌≡◌, ℕ, true, false, List, [], ◌∷◌, refl, arith, nat_lt, ◌&&◌, ◌||◌, codes, slice_index, list_any, Cause, told, near_cause, point_cause, cause_of, geom_cause, Refused}
-use Rattle.surf_run.proofs.Common.{SurfaceFault, LengthFault, is_line_end, cert_cause, evidence_cause, off_cause, IsDecided, copy_cause, sew_cause, surface_cause, walk_cause, walk_told, length_cause, MeshText, Surface, Lengths, Base, Certificate, Coordinates, Copies, Sewing, Walk, Points, Near, Limit, Read, WalkFile}
+use Rattle.surf_answers.proofs.Commands.{SurfaceFault, LengthFault, is_line_end, cert_cause, evidence_cause}
+use Rattle.surf_answers.proofs.Commands.{off_cause, copy_cause, sew_cause, surface_cause, walk_cause, walk_told}
+use Rattle.surf_answers.proofs.Commands.{length_cause, MeshText, Surface, Lengths, Base, Certificate, Coordinates}
+use Rattle.surf_answers.proofs.Commands.{Copies, Sewing, Walk, Points, Near, Limit, Read, WalkFile}
+use Rattle.surf_run.proofs.Common.{IsDecided}
 use Prim.Native.String.{String as Literal}
 use Rattle.surf_cert.specs.declared.fault.CertText.{CertText}
 use Rattle.surf_cert.specs.declared.fault.CertText.TheVariants as certs

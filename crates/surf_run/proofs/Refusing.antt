@@ -1,6 +1,10 @@
 -- No test of words and files answers: where one ends, it refuses.
 use Rattle.surf_answers.proofs.Common.{◌≡◌, ◌<◌, ◌≤◌, inl, inr, ℕ, Bool, true, false, List, [], length, Option, Some, None, Result, Ok, Err, sym, ap, subst, arith, nat_lt, if◌then◌else◌, codes, replicate, bytes_eq, Mesh, edge_count, Cause, due, unread, starved, outcome_of, refused_by, beyond, Outcome, answers, refuses, misses, status_of, Shows, CutsAt, Says, Kind, through, point_cause}
-use Rattle.surf_run.proofs.Common.{Files, bytes_of, LimitKind, lengths_in, off_of, off_cause, Reads, within_text, EndsInFault, IsSurfaceText, lengths_for, HasLengths, HasBase, walk_named, HasWalk, HasKind, kind_named, Extent, fully, Ends, stops, goes, AtMost, and_then, surface_cause, length_cause, points_in, walk_in, walk_cause, WalkFile}
+use Rattle.surf_answers.proofs.Commands.{Files, bytes_of, LimitKind, lengths_in, off_of, off_cause, Reads}
+use Rattle.surf_answers.proofs.Commands.{within_text, EndsInFault, IsSurfaceText, lengths_for, HasLengths, HasBase}
+use Rattle.surf_answers.proofs.Commands.{walk_named, HasWalk, HasKind, kind_named, Extent, fully, Ends, stops, goes}
+use Rattle.surf_answers.proofs.Commands.{AtMost, and_then, surface_cause, length_cause, points_in, walk_in}
+use Rattle.surf_answers.proofs.Commands.{walk_cause, WalkFile}
 use Rattle.surf_base.specs.declared.limits.LimitKind.TheVariants as limits
 use Rattle.surf_words.specs.Words.{trimmed as trimmed_words, through as through_words}
 use Rattle.surf_run.proofs.Refusals.{off_proper, surface_proper, length_proper, walk_proper, point_proper}

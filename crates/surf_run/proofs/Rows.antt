@@ -1,9 +1,12 @@
 -- What comes of each row of the command table: one outcome, which depends on the files alone that the row names.
 use Rattle.surf_answers.proofs.Common.{◌++◌, ◌∷◌, ℕ, List, [], Option, Some, None, refl, edge_count, AllByRecursion, geom_cause, soup_text, refused_by, cut_text, lengths_positive}
-use Rattle.surf_run.proofs.Common.{Files, mesh_of, made_values, cert_cause, copy_cause, sew_cause, First, Second, OnRequest, named, point_file, length_file, Request, help, version, info, dist, loops, basis, cycle, cut, sew, disc, class, same, confirm, shortest, certify_loops, certify_basis, check, lengths, gen_shape, try_shape}
+use Rattle.surf_answers.proofs.Commands.{Files, mesh_of, made_values, cert_cause, copy_cause, sew_cause, First}
+use Rattle.surf_answers.proofs.Commands.{Second, OnRequest, named, point_file, length_file, Request, help, version}
+use Rattle.surf_answers.proofs.Commands.{info, dist, loops, basis, cycle, cut, sew, disc, class, same, confirm}
+use Rattle.surf_answers.proofs.Commands.{shortest, certify_loops, certify_basis, check, lengths, gen_shape, try_shape}
 use Rattle.surf_words.specs.Words.{large_basis, large_cycle, large_shortest}
 use Rattle.surf_answers.specs.ShortestWalk.{GivesShortestWalk}
-use Rattle.surf_run.specs.Fronts.{OnCovered}
+use Rattle.surf_answers.specs.Fronts.{OnCovered}
 use Rattle.surf_geom.specs.Measures.{measures_in}
 use Rattle.surf_geom.specs.Texts.{lengths_text}
 use Rattle.surf_cert.specs.Grammar.{parsed_cert}

@@ -1,6 +1,8 @@
 -- What a run leaves, by what its command answered.
 use Rattle.surf_answers.proofs.Common.{◌≡◌, ◌⊎◌, ◌<◌, ◌≤◌, inl, inr, ℕ, List, Option, Some, None, refl, sym, ◌∙◌, subst, arith, IfSome, codes, Outcome, answers, refuses, misses, Cause, due, unread, starved, misused, line_of, IsTold, Why, WhyOver, verdict_status}
-use Rattle.surf_run.proofs.Common.{Files, HasRisen, GrowsBy, GrowsByShorter, OnRequest, Request, request_of, AreTheFiles, NamesFile, PutsLine, IsDecided, IsLineOf, Refuses, WritesAnswer, WritesFront}
+use Rattle.surf_answers.proofs.Commands.{Files, HasRisen, GrowsBy, GrowsByShorter, OnRequest, Request, request_of}
+use Rattle.surf_run.proofs.Common.{AreTheFiles, NamesFile, PutsLine, IsDecided, IsLineOf, Refuses, WritesAnswer}
+use Rattle.surf_run.proofs.Common.{WritesFront}
 use Rattle.surf_run.specs.Leads.{Leads}
 use Rattle.surf_run.proofs.OneLine.{IsSaid, misused_is_one, read_fault_is_one, write_fault_is_one, memory_is_one}
 use Rattle.surf_answers.specs.declared.answered.Verdict.{Verdict}

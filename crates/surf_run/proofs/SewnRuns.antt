@@ -1,7 +1,8 @@
 -- What `sew` writes of what `cut` wrote is read as the mesh that was cut.
 use Rattle.surf_surfaces.proofs.Common.{◌≡◌, ◌<◌, ◌≤◌, ◌+◌, ◌*◌, ◌++◌, ℕ, Bool, true, false, List, [], ◌∷◌, length, Option, Some, None, Result, Ok, Err, refl, sym, ap, ◌∙◌, subst, arith, inr, AllByRecursion, sum_by, zip, bytes_eq, length-append, recursion_from_All, sum_by-cons, Mesh, IsFace, side_count, face_count, edge_count, loop_count, IsSurface, ltb-false, length-decimal-le, IsOpening}
 use Rattle.std.specs.Prelude.{nat_lt, ◌&&◌, if◌then◌else◌, option_map, codes, decimal}
-use Rattle.surf_run.proofs.Common.{Files, bytes_of, numbers_text, OnRequest, off_cause, copy_cause, sew_cause, Reads, within_text, goes}
+use Rattle.surf_answers.proofs.Commands.{Files, bytes_of, numbers_text, OnRequest, off_cause, copy_cause, sew_cause}
+use Rattle.surf_answers.proofs.Commands.{Reads, within_text, goes}
 use Rattle.surf_base.specs.declared.limits.LimitKind.TheVariants.{Text, Loops}
 use Rattle.surf_disc.proofs.TableLaws.{edges_within}
 use Rattle.surf_off.specs.Off.{OffParts, off_of, off_without_limits}

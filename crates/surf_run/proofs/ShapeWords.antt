@@ -1,6 +1,8 @@
 -- The shapes that words name have surfaces as meshes, and the lengths that a scatter makes are positive.
 use Rattle.surf_answers.proofs.Common.{rules, ℕ, Bool, true, false, List, [], ◌∷◌, Option, Some, None, refl, sym, subst, arith, inl, inr, AllByRecursion, cases_Bool, and_parts, leb-true, get_or-map-range_with_len, Mesh, edge_count, IsSurface, ArePositive, nat_le, ◌&&◌, if◌then◌else◌, IfSome, codes, option_map}
-use Rattle.surf_run.proofs.Common.{made_length, made_values, Shape, IsShape, mesh_of, shape_from, shape_named, Request, help, version, try_shape, word_number, tried, torus_of, chain_of, Row, row, command_table, fits, given_for, request_in, words_of}
+use Rattle.surf_answers.proofs.Commands.{made_length, made_values, Shape, IsShape, mesh_of, shape_from, shape_named}
+use Rattle.surf_answers.proofs.Commands.{Request, help, version, try_shape, word_number, tried, torus_of, chain_of}
+use Rattle.surf_answers.proofs.Commands.{Row, row, command_table, fits, given_for, request_in, words_of}
 use Rattle.surf_tori.specs.Chain.{chain}
 use Rattle.surf_tori.proofs.ChainLaws.{chains_are_surfaces}
 use Rattle.surf_tori.proofs.TorusLaws.{tori_are_surfaces}

@@ -1,6 +1,10 @@
 -- Steps, here and there: what one gives here it gives there, and there it gives one thing.
 use Rattle.surf_answers.proofs.Common.{◌≡◌, ◌≢◌, inl, inr, ℕ, Bool, true, false, List, [], Result, Ok, Err, refl, sym, ◌∙◌, ap, subst, arith, ◌∷◌, if◌then◌else◌, codes, replicate, Mesh, edge_count, IsSurface, AllByRecursion, bytes_eq, Outcome, refused_by, through, point_cause}
-use Rattle.surf_run.proofs.Common.{Files, bytes_of, length_cause, Ends, stops, goes, AtMost, and_then, Reads, within_text, IsMeshText, EndsInFault, IsSurfaceOf, IsSurfaceText, lengths_for, HasLengths, HasBase, walk_named, HasWalk, HasKind, kind_named, OffParts, off_of, off_cause, LimitKind, WalkFile, points_in, Extent, fully, length_file, point_file, lengths_in, walk_in, walk_cause}
+use Rattle.surf_answers.proofs.Commands.{Files, bytes_of, length_cause, Ends, stops, goes, AtMost, and_then, Reads}
+use Rattle.surf_answers.proofs.Commands.{within_text, IsMeshText, EndsInFault, IsSurfaceOf, IsSurfaceText}
+use Rattle.surf_answers.proofs.Commands.{lengths_for, HasLengths, HasBase, walk_named, HasWalk, HasKind, kind_named}
+use Rattle.surf_answers.proofs.Commands.{OffParts, off_of, off_cause, LimitKind, WalkFile, points_in, Extent, fully}
+use Rattle.surf_answers.proofs.Commands.{length_file, point_file, lengths_in, walk_in, walk_cause}
 use Rattle.surf_check.proofs.FaultLaws.{fault_only}
 use Rattle.surf_run.proofs.OneFaults.{surface_faults_are_one}
 use Rattle.surf_texts.specs.Faults.{TellsFault}

@@ -1,7 +1,8 @@
 -- What `certify` writes passes `check`.
 use Rattle.surf_surfaces.proofs.Common.{◌≡◌, ◌<◌, ◌≤◌, ℕ, false, List, [], ◌∷◌, length, Option, Some, None, Result, Ok, Err, refl, sym, ap, ◌∙◌, subst, arith, inl, le-ltb, Mesh, IsSurface, face_count, edge_count, loop_count, ArePositive, Loop, loops_at, IsChosenBasis, IsLoopCount, All-get_or, All-nil}
 use Rattle.std.specs.Prelude.{nat_lt, option_map, codes}
-use Rattle.surf_run.proofs.Common.{Files, bytes_of, cert_cause, off_cause, OffParts, off_of, OnRequest, named, Reads, within_text, IsSurfaceText, HasLengths, HasBase, goes}
+use Rattle.surf_answers.proofs.Commands.{Files, bytes_of, cert_cause, off_cause, OffParts, off_of, OnRequest, named}
+use Rattle.surf_answers.proofs.Commands.{Reads, within_text, IsSurfaceText, HasLengths, HasBase, goes}
 use Rattle.surf_base.specs.declared.limits.LimitKind.TheVariants.{CertificateVertices}
 use Rattle.surf_base.specs.declared.limits.LimitKind.TheVariants as limits
 use Rattle.surf_cert.specs.Grammar.{parsed_cert}

@@ -1,6 +1,7 @@
 -- Words and files have one outcome, and where nothing failed it is the answer.
 use Rattle.surf_answers.proofs.Common.{◌≡◌, ◌⊎◌, ◌≤◌, inl, inr, ℕ, List, [], refl, sym, ◌∙◌, ap, subst, arith, ◌∷◌, cases_eq, cases_lt, AllByRecursion, Outcome, answers, refuses, misses, Shows, status_of}
-use Rattle.surf_run.proofs.Common.{Files, IsDecided, named, Answer, request_of}
+use Rattle.surf_answers.proofs.Commands.{Files, named, request_of}
+use Rattle.surf_run.proofs.Common.{IsDecided, Answer}
 use Rattle.surf_run.specs.OneAnswer.{OutcomesAreOne, AnswersAreOne}
 use Rattle.surf_run.proofs.ShapeWords.{words_are_well_shaped}
 use Rattle.surf_run.specs.Leads.{Leads}

@@ -3,7 +3,7 @@ use Rattle.std.specs.Prelude.{ℕ, List}
 use Rattle.surf_base.specs.Outside.{Files}
 use Rattle.surf_texts.specs.Outcome.{Outcome, Shows}
 use Rattle.surf_words.specs.Words.{request_of}
-use Rattle.surf_run.specs.Commands.{OnRequest}
+use Rattle.surf_answers.specs.Commands.{OnRequest}
 
 -- what comes of these words over these files
 unfoldable pub Leads : List (List ℕ) → Files → Outcome → Type 0

@@ -1,11 +1,5 @@
-pub mod Commands
-pub mod Cutting
-pub mod Fronts
 pub mod Leads
 pub mod Named
 pub mod OneAnswer
-pub mod Reading
 pub mod Run
-pub mod Sewing
-pub mod Steps
 pub mod TwoRuns

@@ -3,7 +3,7 @@ use Rattle.std.specs.Prelude.{◌≡◌, ℕ, List, All}
 use Rattle.surf_base.specs.Outside.{Files, bytes_of}
 use Rattle.surf_texts.specs.Outcome.{Outcome}
 use Rattle.surf_words.specs.Words.{request_of}
-use Rattle.surf_run.specs.Commands.{named}
+use Rattle.surf_answers.specs.Commands.{named}
 use Rattle.surf_run.specs.Leads.{Leads}
 
 -- the files of these names are the same here and there

@@ -9,7 +9,7 @@ use Rattle.surf_surfaces.specs.Mesh.{Mesh}
 use Rattle.surf_texts.specs.MeasuredTexts.{measured_text}
 use Rattle.surf_texts.specs.CountLines.{count_line}
 use Rattle.surf_texts.specs.EvidenceLines.{right_line}
-use Rattle.surf_run.specs.Commands.{length_file}
+use Rattle.surf_answers.specs.Commands.{length_file}
 use Rattle.surf_run.specs.Leads.{Answer, Leads}
 use Rattle.surf_run.specs.Named.{AgreeOn}
 use Rattle.surf_texts.specs.Outcome.{Outcome}

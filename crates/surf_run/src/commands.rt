@@ -1,34 +1,21 @@
 //! The commands, and what each answers.
 ghost use Rattle.std.specs.Prelude.{◌≡◌, ◌≤◌, ◌⊎◌, Some, IsErrOf};
 ghost use Rattle.surf_base.specs.Outside.{Files};
-ghost use Rattle.surf_run.specs.Commands.{OnRequest};
+ghost use Rattle.surf_answers.specs.Commands.{OnRequest};
 ghost use Rattle.surf_run.specs.Run.{NamesFile};
 ghost use Rattle.surf_words.specs.Words.{request};
 ghost use Rattle.surf_answers.specs.Tells.{Concludes, ConcludesOver};
 
-mod basis;
-mod certify_basis;
-mod certify_loops;
-mod check;
-mod class;
-mod confirm;
-mod cut;
-mod cycle;
-mod disc;
-mod dist;
-mod gen_shape;
-mod info;
-mod lengths;
-mod loops;
-mod same;
-mod sew;
-mod shortest;
-mod try_shape;
-
 use std::alloc::Global;
-use surf_answers::{Answered, help, version};
+use surf_answers::Answered;
 use surf_base::Shelf;
+use surf_cutting::commands::{cut, disc, sew};
+use surf_finding::commands::{basis, certify_basis, certify_loops, cycle, loops, try_shape};
+use surf_judging::commands::{check, confirm};
+use surf_looking::commands::{dist, gen_shape, info, lengths};
+use surf_looking::{help, version};
 use surf_texts::Refused;
+use surf_walking::commands::{class, same, shortest};
 use surf_words::{Command, CutWords};
 
 /// What a command answers.

@@ -3,15 +3,8 @@
 
 mod commands;
 mod laws;
-mod lengths;
-mod limits;
-mod made;
-mod points;
-mod reading;
 mod saying;
-mod surfaces;
 mod top;
-mod walks;
 
 pub use laws::{law_of_named_files, law_of_one_answer, law_of_two_runs};
 pub use saying::{MEMORY, say};

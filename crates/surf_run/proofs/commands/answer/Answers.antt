@@ -1,5 +1,5 @@
 use Rattle.surf_answers.proofs.Common.{[], Some, inr, sym, subst, Concludes, ConcludesOver}
-use Rattle.surf_run.proofs.Common.{OnRequest, gen_shape, try_shape, request, ends_over_any, reads_nothing}
+use Rattle.surf_answers.proofs.Commands.{OnRequest, gen_shape, try_shape, request, ends_over_any, reads_nothing}
 use Rattle.surf_words.specs.declared.words.Command.{Command}
 use Rattle.surf_run.proofs.commands.answer.Goals as goal
 

@@ -1,5 +1,6 @@
 use Rattle.surf_answers.proofs.Common.{◌⊎◌, inl, inr, ◌<◌, ◌≤◌, ℕ, List, refl, subst, sym, arith, cause_of}
-use Rattle.surf_run.proofs.Common.{Files, GrowsBy, GrowsByShorter, AreTheFiles, WritesAnswer, request, request_of, texts}
+use Rattle.surf_answers.proofs.Commands.{Files, GrowsBy, GrowsByShorter, request, request_of, texts}
+use Rattle.surf_run.proofs.Common.{AreTheFiles, WritesAnswer}
 use Rattle.surf_run.proofs.Refusals.{refusals_are_proper}
 use Rattle.surf_run.proofs.Running.{no_row, written, cut_off, write_fault_said, told_why, told_unread, undecided, verdicts_are_low, missing_file, refuses_high, told_named}
 use Rattle.surf_run.proofs.Unique.{completes}

@@ -1,0 +1,3 @@
+mod CopyLines
+mod CutLaws
+mod Cutting

@@ -1,0 +1,5 @@
+mod CertifyLaws
+mod CycleLaws
+mod FindingLaws
+mod HeadLaws
+mod SummaryLaws

@@ -1,0 +1,2 @@
+pub mod CycleTexts
+pub mod HeadTexts
