@@ -73,6 +73,7 @@ CHECKS = [
     Check("tools.house.test_reach"),
     Check("tools.house.test_checks"),
     Check("tools.house.test_contracts"),
+    Check("tools.house.test_shorten"),
     Check("bench.test_bench"),
     Check("elsewhere.test_elsewhere"),
     Check("tools.house.wrong_bodies --check"),
