@@ -1,0 +1,3 @@
+pub mod LeastWalks
+pub mod VertexSheets
+pub mod Rows
