@@ -1,5 +1,6 @@
 """The library and the program as callers: what they say, how long answers can be, threads, limits and signals."""
 
+import ctypes
 import os
 import pathlib
 import signal
@@ -13,7 +14,7 @@ from unittest import mock
 import numpy as np
 import surfbasis
 from support import CORNERS, CUBE, PROGRAM, off_text, read, torus, walks_of
-from surfbasis import _callers, _library, _processor
+from surfbasis import _apart, _callers, _library, _processor
 
 LIBRARY = os.fspath(_library.own_library())
 HAS_LIBRARY = unittest.skipUnless(os.path.isfile(LIBRARY), "the package has no library")
@@ -47,6 +48,13 @@ class Counted:
 
     def __call__(self, words, files, room):
         return self.library(words, files, room)
+
+
+def given_up(*words):
+    """What a translated library answers where a call has to be given up."""
+    text = b"fault: bounds\n"
+    ctypes.memmove(words[-2], text, len(text))
+    return _apart.Said(len(text), 255)
 
 
 def script(folder, text):
@@ -181,6 +189,16 @@ class Using(unittest.TestCase):
             _callers.LibraryApart("/nowhere/libsurf.so", 300)("info 1", [TETRAHEDRON], 0)
         with mock.patch("sys.executable", ""), self.assertRaisesRegex(RuntimeError, "sys.executable"):
             apart("info 1", [TETRAHEDRON], 0)
+
+    def test_a_fault_of_a_translation_is_no_answer(self):
+        library = object.__new__(surfbasis.Library)
+        library._call = given_up
+        with self.assertRaisesRegex(surfbasis.Ended, "^fault: bounds$"):
+            library("info 1", [TETRAHEDRON], 0)
+        with tempfile.TemporaryDirectory() as folder:
+            answer = script(folder, "printf '\\377fault: bounds\\n'")
+            with mock.patch("sys.executable", str(answer)), self.assertRaisesRegex(surfbasis.Ended, "^fault: bounds$"):
+                _callers.LibraryApart("libsurf.so", 60)("info 1", [TETRAHEDRON], 0)
 
     def test_ctrl_c(self):
         # what is started in the background may have been told to ignore it
