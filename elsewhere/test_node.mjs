@@ -35,4 +35,10 @@ const [walk] = basis.walks;
 assert.equal(eight.classify(walk.vertices).bounds, false);
 assert.equal(eight.shortest(walk.vertices).units, walk.units);
 assert.deepEqual(call('info 4').status, 9);
+
+// A module that lends the address 8 to all who ask, and whose surf_call is `unreachable`: a trap is no answer.
+const TRAP = 'AGFzbQEAAAABGANgAX4BfmABfgBgC35+fn5+fn5+fn5+AAMEAwABAgUDAQABBy4EBm1lbW9yeQIACXN1cmZfdGFrZQAACXN1cmZfZ2l2ZQABCXN1cmZfY2FsbAACCg0DBABCCAsCAAsDAAAL';
+const { Program } = await import(new URL('program.js', pathToFileURL(index)));
+const trapping = await Program.load(Buffer.from(TRAP, 'base64'));
+assert.throws(() => trapping.call('info 1', []), WebAssembly.RuntimeError);
 console.log('the package: its tests passed');
