@@ -5,3 +5,4 @@ pub mod RoundLaws
 pub mod Tests
 pub mod DualTests
 pub mod SearchSheets
+pub mod Needs

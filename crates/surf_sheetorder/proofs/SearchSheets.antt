@@ -26,7 +26,7 @@ loops_past_later_places margin p q found no_later past =
     ]
 
 -- so is what comes after a loop that is past it
-past_after : (margin : ℕ) (place found later : Place) → is_no_later found later ≡ true →
+pub past_after : (margin : ℕ) (place found later : Place) → is_no_later found later ≡ true →
     IsLoopPast margin place found → IsLoopPast margin place later
 past_after margin place found later no_later past =
     let short = no_later_length found.0 found.1 later.0 later.1 no_later in

@@ -21,6 +21,8 @@ use Rattle.surf_sheetorder.specs.Off.{IsServedBefore, AreInOrder, IsServedBySome
 use Rattle.surf_sheetorder.specs.Rounds.{AreAlike, AreClaimed, AreFirst, Round, AreShownByRounds}
 use Rattle.surf_sheetorder.specs.Searches.{IsLinear, edges_passing, AgreeWhereClear, sheet_of_search, IsLoopPast}
 use Rattle.surf_sheetorder.specs.Searches.{ListedLoop, AreListed}
+use Rattle.surf_sheetorder.specs.Needs.{classes_of, place_in, AreClaimedLoops, TellsNeed, NoneNeedsSooner, NoneNeedsSoonerAt}
+use Rattle.surf_sheetorder.specs.Needs.{IsSumOfFirst, IsPastNeed, IsSearchOff}
 
 -- ---- sheets in an order
 
@@ -218,3 +220,48 @@ SearchesShowMore =
     ComesFirstAt mesh lengths (edges_passing mesh d (tests i)) (place_at_number mesh lengths walks i) y) →
     (x : ℕ) → (trees z).rank x ≤ margin →
     ComesFirstAt mesh lengths (edges_passing mesh d (tests i)) (place_at_number mesh lengths walks i) x
+
+-- ---- what closed walks need
+
+-- A class that is a sum of the first of some loops needs these alone.
+abbrev pub SumsNeedFirst : Type 0
+SumsNeedFirst =
+    (loops : List ListedLoop) (i n class : ℕ) (test : ℕ → Bool) → TellsNeed (classes_of loops) i test →
+    IsSumOfFirst loops n class → test class ≡ true → i < n
+
+-- Let no closed walk over a vertex that a search leaves out, and that needs the loop with a number,
+-- come sooner. If each loop that the search lists is a sum of loops before that one or is past its
+-- place, and so is what isn't sought, then no such walk over a vertex within the margin comes
+-- sooner.
+abbrev pub SearchesShowNeeds : Type 0
+SearchesShowNeeds =
+    (mesh : Mesh) (d : Split) (lengths : List ℕ) (loops : List ListedLoop) (off : ℕ → Bool) (z margin i : ℕ)
+    (sought : Place → Bool) (listed : List ListedLoop) (near : List ℕ) → IsSurface mesh → IsSplit (cells_of mesh) d →
+    AreClaimedLoops mesh lengths d loops → i < length loops →
+    IsSearchOff mesh lengths d off z sought listed margin near →
+    All (IsPastNeed loops margin i) listed →
+    ((place : Place) → sought place ≡ false → IsLoopPast margin (place_in loops i) place) →
+    ((y : ℕ) → y < mesh.vertices → off y ≡ true → NoneNeedsSoonerAt mesh lengths d loops i y) →
+    All (NoneNeedsSoonerAt mesh lengths d loops i) near
+
+-- A class at each vertex may be added to the signatures of all edges there. Let each edge whose
+-- class then is no sum of loops before the one with a number have an end over which no closed walk
+-- that needs that one comes sooner. Then none comes sooner.
+abbrev pub LabelledEdgesShowNeeds : Type 0
+LabelledEdgesShowNeeds =
+    (mesh : Mesh) (d : Split) (lengths : List ℕ) (loops : List ListedLoop) (labels : ℕ → ℕ) (i : ℕ) → IsSurface mesh →
+    ((e : ℕ) → e < edge_count mesh →
+    (n : ℕ) × IsSumOfFirst loops n
+    (bit_xor (bit_xor (labels (ends mesh e).0) (labels (ends mesh e).1)) (edge_signature mesh d e))
+    × (i < n → NoneNeedsSoonerAt mesh lengths d loops i (ends mesh e).0
+    ⊎ NoneNeedsSoonerAt mesh lengths d loops i (ends mesh e).1)) →
+    NoneNeedsSooner mesh lengths d loops i
+
+-- Claimed loops of which none is needed by a closed walk that comes sooner have the places of the
+-- chosen basis, one by one.
+abbrev pub LoopsHavePlacesOfBasis : Type 0
+LoopsHavePlacesOfBasis =
+    (mesh : Mesh) (d : Split) (lengths : List ℕ) (loops : List ListedLoop) (trees : ℕ → Trees) (basis : List Loop) →
+    IsSurface mesh → IsSplit (cells_of mesh) d → ArePositive mesh lengths → AreClaimedLoops mesh lengths d loops →
+    ((i : ℕ) → i < length loops → NoneNeedsSooner mesh lengths d loops i) → AreChosen mesh lengths trees →
+    IsChosenBasis mesh lengths trees basis → map (λ c. c.place) loops ≡ map place_of_loop basis

@@ -1,4 +1,5 @@
 pub mod Off
 pub mod Rounds
 pub mod Searches
+pub mod Needs
 pub mod Laws

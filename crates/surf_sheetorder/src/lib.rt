@@ -23,6 +23,7 @@
 //! - Rounds with cocycles of their own show the places of the basis (`law_of_rounds`).
 //! - Classes tell by linear tests what is odd on cocycles (`law_of_tests`).
 //! - A search is a sheet (`law_of_search_sheets`).
+//! - Of the loops that closed walks need the first are enough to know (`law_of_needs`).
 //!
 //! Each law is the contract of a function that does nothing.
 #![tactic(auto)]
@@ -34,7 +35,8 @@ ghost use Rattle.surf_sheetorder.specs.Laws.{RoundsHavePlacesOfBasis, TestsAreCo
 ghost use Rattle.surf_sheetorder.specs.Laws.{BasesHaveTests, LabelledEdgesShow, SumsPassNone};
 ghost use Rattle.surf_sheetorder.specs.Laws.{NonnullWalksComeNoSooner, SumsKeepTests};
 ghost use Rattle.surf_sheetorder.specs.Laws.{LoopsPastLaterPlaces, SearchesAreSheets, ListedLoopsShow};
-ghost use Rattle.surf_sheetorder.specs.Laws.{SearchesShowMore};
+ghost use Rattle.surf_sheetorder.specs.Laws.{SearchesShowMore, SumsNeedFirst, SearchesShowNeeds};
+ghost use Rattle.surf_sheetorder.specs.Laws.{LabelledEdgesShowNeeds, LoopsHavePlacesOfBasis};
 
 /// A sheet may leave out vertices that sheets before it serve for all of its numbers. One by one
 /// they show more vertices, and where an end of each edge of a cocycle is shown, no closed walk that
@@ -79,4 +81,15 @@ pub fn law_of_search_sheets()
     ensures searches { SearchesAreSheets }
     ensures listed { ListedLoopsShow }
     ensures more { SearchesShowMore }
+{}
+
+/// Loops are claimed to be a basis. What a closed walk needs of them tells whether it is odd on
+/// their cocycles, and of how many of the first its class is a sum bounds what it needs. So
+/// searches and labels show by such counts that none of them is needed by a walk that comes sooner,
+/// and then they have the places of the basis that is chosen.
+pub fn law_of_needs()
+    ensures first { SumsNeedFirst }
+    ensures searches { SearchesShowNeeds }
+    ensures labelled { LabelledEdgesShowNeeds }
+    ensures places { LoopsHavePlacesOfBasis }
 {}
