@@ -1,19 +1,13 @@
-#!/usr/bin/env python3
-"""Charts of what `bench/peers.py` measured, as SVG pictures.
+"""Charts of what `bench/peers.py` measured, as SVG pictures, which `bench/page.py` writes.
 
-    bench/charts.py TABLE [--out FOLDER]
-
-TABLE is what `bench/peers.py --save` wrote. The pictures are `speed-seconds.svg` (seconds over vertices for each job,
-with the peers), `speed-handles.svg` (seconds of a basis over the number of handles) and `speed-memory.svg` (megabytes
-over vertices). All axes are logarithmic, and lengths equal. Points that are missing were late or not tried.
+The pictures are `speed-seconds.svg` (seconds over vertices for each job, with the peers), `speed-handles.svg` (seconds
+of a basis over the number of handles) and `speed-memory.svg` (megabytes over vertices). All axes are logarithmic, and
+lengths equal. Points that are missing were late or not tried.
 """
-import argparse
-import csv
 import math
 from collections.abc import Callable
 from dataclasses import dataclass
 from html import escape
-from pathlib import Path
 
 WIDTH, HEIGHT = 330, 270
 LEFT, RIGHT, TOP, BOTTOM = 52, 28, 30, 44
@@ -30,11 +24,19 @@ COLOURS = {
 TITLES = {
     "info": "The surface test",
     "dist": "Shortest ways from a vertex",
-    "cut": "A disc",
-    "cycle": "A shortest cycle",
-    "loop": "A shortest loop at a vertex",
     "loops": "Shortest loops at a vertex",
+    "loop": "A shortest loop at a vertex",
+    "cut": "A disc",
+    "sew": "A disc sewn up",
+    "disc": "The test of a disc",
     "basis": "A homology basis",
+    "cycle": "A shortest cycle",
+    "same": "Whether two walks are the same",
+    "class": "The class of a walk",
+    "shortest": "A shortest walk of a class",
+    "certify": "A certificate of loops",
+    "check": "The check of one",
+    "gen": "The torus itself",
 }
 Point = tuple[float, float]
 
@@ -176,18 +178,3 @@ def pictures(rows: list[dict[str, str]]) -> dict[str, str]:
         "speed-handles.svg": picture(bases, "Seconds of a homology basis over the number of handles"),
         "speed-memory.svg": picture(memory, "Megabytes over the vertices of a torus, for each job and program"),
     }
-
-
-def main() -> None:
-    parser = argparse.ArgumentParser(description=__doc__, formatter_class=argparse.RawDescriptionHelpFormatter)
-    parser.add_argument("table", type=Path)
-    parser.add_argument("--out", type=Path, default=Path(__file__).resolve().parent.parent / "docs" / "pictures")
-    options = parser.parse_args()
-    with options.table.open(newline="") as text_of_table:
-        rows = list(csv.DictReader(text_of_table, delimiter="\t"))
-    for name, svg in pictures(rows).items():
-        (options.out / name).write_text(svg)
-
-
-if __name__ == "__main__":
-    main()

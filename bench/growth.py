@@ -4,10 +4,10 @@
     bench/growth.py [--surf PROGRAM] [--limit SECONDS] [--above POWER] [--part TEXT] [COMMAND ..]
 
 Each command runs on each kind of mesh at two sizes, the second about four times the first, with lengths of
-`bench/lengths.py`. A row has the seconds of both sizes and the power of the number of vertices with which they grow.
-Only rows whose power is above `--above` (1.3) stand in the table; the last lines count the others, with the power and
-the seconds of the worst. `--part` keeps the meshes that have that text in their words. Commands are named as in the
-table, or by their first words.
+`bench/lengths.py`. The table has for each command how often it ran, the greatest power of the number of vertices with
+which its seconds grew, and its most seconds. Where a run is too short or too long to tell, there is no power. Each pair
+of runs whose power is above `--above` (1.3) is told before, with its seconds. `--part` keeps the meshes that have that
+text in their words. Commands are named as in the table, or by their first words.
 """
 import argparse
 import sys
@@ -16,7 +16,7 @@ from collections.abc import Iterator
 from dataclasses import dataclass
 from pathlib import Path
 
-from bench import hard, speed
+from bench import hard, speed, tables
 
 LENGTHS = [hard.UNIT, hard.SCATTERED, hard.TIES, hard.HEAVY, hard.NEAR]
 
@@ -124,6 +124,14 @@ def rows(options: argparse.Namespace, surf: Path) -> Iterator[Row]:
                         yield row
 
 
+def summed(name: str, rows: list[Row]) -> list[str]:
+    """The cells of a command: how many pairs of runs it has, its greatest power, and its most seconds."""
+    steepest = max((row for row in rows if row.power != "-"), key=lambda row: float(row.power), default=None)
+    slowest = max(rows, key=lambda row: row.seconds)
+    power = [steepest.power, steepest.words[1]] if steepest else ["-", ""]
+    return [name, str(len(rows)), *power, f"{slowest.seconds:.2f}", slowest.words[1]]
+
+
 def main() -> None:
     parser = argparse.ArgumentParser(description=__doc__, formatter_class=argparse.RawDescriptionHelpFormatter)
     parser.add_argument("--surf", type=Path)
@@ -135,18 +143,14 @@ def main() -> None:
     options = parser.parse_args()
     options.beside, options.plain_beside, options.sketch = [], [], []
     surf = (options.surf or speed.built()).resolve()
-    head = ["command", "mesh", "lengths", "seconds before", "seconds", "MB", "power"]
-    print("| " + " | ".join(head) + " |")
-    print("|---" * len(head) + "|")
+    tables.print_head(["command", "mesh", "lengths", "seconds before", "seconds", "MB", "power"])
     seen: dict[str, list[Row]] = {}
     for row in rows(options, surf):
         seen.setdefault(row.words[0], []).append(row)
         if row.is_steep(options.above):
-            print("| " + " | ".join(row.words) + " |", flush=True)
-    for name, ours in seen.items():
-        steepest = max((row.power for row in ours if row.power != "-"), key=float, default="-")
-        slowest = max(ours, key=lambda row: row.seconds)
-        print(f"{name}: {len(ours)} rows, steepest {steepest}, slowest {slowest.seconds:.2f} s on {slowest.words[1]}")
+            print(tables.line(row.words), flush=True)
+    head = ["command", "pairs of runs", "greatest power", "on", "most seconds", "on"]
+    tables.tell("growth", head, (summed(name, ours) for name, ours in seen.items()), is_kept=False)
 
 
 if __name__ == "__main__":

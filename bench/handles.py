@@ -1,11 +1,12 @@
 #!/usr/bin/env python3
 """Seconds that `tools drop_handles` takes for many handles, as a table in Markdown.
 
-    bench/handles.py [--surf PROGRAM] [--repeat N]
+    bench/handles.py [--surf PROGRAM] [--repeat N] [--keep]
 
 Seconds are of one processor, of the tool and of the program that it asks, the least of the repeats. The meshes are of
 `bench/meshes.py` with lengths of `bench/lengths.py`, and cheese.off of Debian's package libcgal-demo, which is passed
 over with a word where that isn't installed. The tool takes off the shortest handles, as many as the table says.
+`--keep` keeps the table in `bench/measured`.
 """
 import argparse
 import os
@@ -14,7 +15,7 @@ import sys
 import tempfile
 from pathlib import Path
 
-from bench import hard, speed
+from bench import hard, speed, tables
 from tools import TOP
 from tools.house import pictures
 from tools.users.off import Mesh, write_off
@@ -79,14 +80,14 @@ def main() -> None:
     parser = argparse.ArgumentParser(description=__doc__, formatter_class=argparse.RawDescriptionHelpFormatter)
     parser.add_argument("--surf", type=Path)
     parser.add_argument("--repeat", type=int, default=1)
+    parser.add_argument("--keep", action="store_true")
     options = parser.parse_args()
     surf = (options.surf or speed.built()).resolve()
     with tempfile.TemporaryDirectory() as folder:
         files = hard.Files(surf, Path(folder), options)
-        speed.print_head(["mesh", "lengths", "vertices", "handles taken off", "seconds"])
-        for name, lengths, most in CASES:
-            if cells := row(name, lengths, most, files, options.repeat):
-                print("| " + " | ".join(cells) + " |", flush=True)
+        head = ["mesh", "lengths", "vertices", "handles taken off", "seconds"]
+        made = (row(*case, files, options.repeat) for case in CASES)
+        tables.tell("handles", head, filter(None, made), options.keep)
 
 
 if __name__ == "__main__":

@@ -2,7 +2,7 @@
 """Seconds, memory and growth of each command on meshes that no search was tuned for, as one table in Markdown.
 
     bench/hard.py [--surf PROGRAM] [--plain] [--beside NAME=WORDS ..] [--repeat N] [--limit SECONDS] [--part TEXT]
-                  [--bases | --large | COMMAND ..]
+                  [--keep] [--bases | --large | COMMAND ..]
 
 Each row is a command on a mesh of `bench/meshes.py` with lengths of `bench/lengths.py`, at two sizes, the second
 about four times the first. Seconds, megabytes and ratios are those of the second; the exponent is the power of the
@@ -14,7 +14,7 @@ text in its words.
 
 `--bases` makes another table: how many times the seconds of the sketch a basis takes, on meshes of some 20,000
 vertices with lengths of six kinds. `--large` makes one of bases of meshes with up to 1,000,000 vertices, by the word
-`large`; a program that doesn't know it is passed over with a word.
+`large`; a program that doesn't know it is passed over with a word. `--keep` keeps that table in `bench/measured`.
 """
 import argparse
 import math
@@ -22,10 +22,11 @@ import shlex
 import subprocess
 import sys
 import tempfile
+from collections.abc import Iterator
 from dataclasses import dataclass
 from pathlib import Path
 
-from bench import lengths, meshes, speed
+from bench import lengths, meshes, speed, tables
 
 # Less than this at the first size tells nothing of growth.
 TELLING_SECONDS = 0.02
@@ -57,18 +58,18 @@ BASES = [
     "chain 8 30 30",
 ]
 LARGE = [
-    "torus 700 700",
-    "torus 3 333333",
-    "chain 8 353 353",
-    "chain 64 125 125",
-    "chain 512 44 44",
-    "ring 511 44 44",
     "scan 500000 5",
     "scan 500000 50",
     "scan 500000 104",
+    "torus 3 333333",
+    "ring 511 44 44",
+    "chain 512 44 44",
+    "chain 64 125 125",
+    "torus 700 700",
     "gyroid 90 4",
-    "handles 700 700 500",
 ]
+# These take longest, so they run only where --part names them.
+LARGEST = ["chain 8 353 353", "handles 700 700 500"]
 LINEAR = GREAT_FACES + GREAT_DEGREES + DEEP + SCANS
 FAR = THIN + HANDLES + ONE_SIDED + ROUGH
 
@@ -79,7 +80,14 @@ HEAVY = "heavy 97 1 4294967295"
 NEAR = "near 1000000 3"
 MILLION = "random 1 1000000"
 COORDINATES = "coordinates 6"
-BASES_LENGTHS = [UNIT, SCATTERED, TIES, HEAVY, NEAR, MILLION]
+BASES_LENGTHS = {
+    UNIT: "unit",
+    SCATTERED: "1 to 97",
+    TIES: "1 to 3",
+    HEAVY: "one heavy cut",
+    NEAR: "near-equal",
+    MILLION: "to a million",
+}
 
 
 @dataclass
@@ -191,15 +199,18 @@ def basis_beside(mesh: str, weights: str, files: Files, options: argparse.Namesp
     return speed.in_turn(programs, [], files.work, options), vertices_of(names["M"][0])
 
 
-def print_bases(files: Files, options: argparse.Namespace) -> None:
-    """The table of ratios: a row for each mesh, a column for each kind of lengths."""
-    speed.print_head(["basis", *BASES_LENGTHS])
+def bases_rows(files: Files, options: argparse.Namespace) -> Iterator[list[str]]:
+    """The ratios of each mesh, one for each kind of lengths."""
     for mesh in (mesh for mesh in BASES if options.part in mesh):
-        cells = []
+        cells = [mesh]
         for weights in BASES_LENGTHS:
             (ours, sketch), _ = basis_beside(mesh, weights, files, options, is_large=False)
             cells.append(speed.ratio(ours, sketch))
-        print("| " + " | ".join([mesh, *cells]) + " |", flush=True)
+        yield cells
+
+
+def print_bases(files: Files, options: argparse.Namespace) -> None:
+    tables.tell("bases", ["basis", *BASES_LENGTHS.values()], bases_rows(files, options), options.keep)
 
 
 def knows_large(files: Files) -> bool:
@@ -208,23 +219,26 @@ def knows_large(files: Files) -> bool:
     return subprocess.run(words, capture_output=True, check=False).returncode == 0
 
 
+def large_rows(files: Files, options: argparse.Namespace) -> Iterator[list[str]]:
+    """The cells of each large mesh, with equal lengths and with others. Its files go before the next are made."""
+    for mesh in (mesh for mesh in [*LARGE, *(LARGEST if options.part else [])] if options.part in mesh):
+        for weights in (UNIT, COORDINATES if mesh.startswith("scan") else SCATTERED):
+            (ours, *others), count = basis_beside(mesh, weights, files, options, is_large=True)
+            cells = [mesh, weights.split()[0], f"{count:,}", *ours.figures()]
+            for other in others:
+                cells += [*other.figures(), speed.ratio(ours, other)]
+            yield cells
+        files.forget()
+
+
 def print_large(files: Files, options: argparse.Namespace) -> None:
-    """The table of large meshes. The files of a mesh go before those of the next are made."""
     if not knows_large(files):
         print("the program doesn't know `large`: bases of large meshes passed over")
         return
     head = ["basis", "lengths", "vertices", "seconds", "MB"]
     for name, _ in options.sketch:
         head += [f"{name}: seconds", f"{name}: MB", "ratio"]
-    speed.print_head(head)
-    for mesh in (mesh for mesh in LARGE if options.part in mesh):
-        for weights in (UNIT, COORDINATES if mesh.startswith("scan") else SCATTERED):
-            (ours, *others), count = basis_beside(mesh, weights, files, options, is_large=True)
-            cells = [mesh, weights, f"{count:,}", *ours.figures()]
-            for other in others:
-                cells += [*other.figures(), speed.ratio(ours, other)]
-            print("| " + " | ".join(cells) + " |", flush=True)
-        files.forget()
+    tables.tell("large", head, large_rows(files, options), options.keep)
 
 
 def print_all(files: Files, options: argparse.Namespace) -> None:
@@ -232,13 +246,13 @@ def print_all(files: Files, options: argparse.Namespace) -> None:
     head = ["command", "mesh", "lengths", "vertices", "seconds", "MB", "exponent"]
     for name, _ in [*options.plain_beside, *options.beside]:
         head += [f"{name}: seconds", "ratio"]
-    speed.print_head(head)
+    tables.print_head(head)
     for case in CASES:
         if options.commands and not {case.name, case.name.split()[0]} & set(options.commands):
             continue
         for sizes in (pair for pair in case.sizes if options.part in pair[1]):
             for weights in case.lengths:
-                print("| " + " | ".join(row(case, sizes, weights, files, options)) + " |", flush=True)
+                print(tables.line(row(case, sizes, weights, files, options)), flush=True)
 
 
 def main() -> None:
@@ -251,10 +265,13 @@ def main() -> None:
     parser.add_argument("--part", default="", help="only meshes with this text in their words")
     parser.add_argument("--bases", action="store_true")
     parser.add_argument("--large", action="store_true")
+    parser.add_argument("--keep", action="store_true", help="with --bases or --large, of all meshes")
     parser.add_argument("commands", nargs="*", help="names of rows, or their first words; none: all")
     options = parser.parse_args()
     if options.bases and not options.plain:
         parser.error("--bases wants --plain")
+    if options.keep and (options.part or not options.plain or not (options.bases or options.large)):
+        parser.error("--keep wants --plain, --bases or --large, and all meshes")
     options.limit = options.limit or (200 if options.large else 60)
     surf = (options.surf or speed.built()).resolve()
     plain = [str(speed.plain_built())] if options.plain else []

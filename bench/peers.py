@@ -1,13 +1,15 @@
 #!/usr/bin/env python3
 """What `surf` and the programs that people use answer on the same files, as a table in Markdown.
 
-    bench/peers.py [--surf PROGRAM] [--repeat N] [--limit SECONDS] [--save TABLE] [JOB ..]
+    bench/peers.py [--surf PROGRAM] [--repeat N] [--limit SECONDS] [--keep] [JOB ..]
 
 Peers are what Debian has: CGAL (`libcgal-dev`), Gmsh (`python3-gmsh`), PHAT (`libphat-dev`) and GUDHI (`libgudhi-dev`);
 libigl has no package there. The programs in `bench/peers` call them; those in C++ are built by g++ into
 `bench/peers/built`. A peer that isn't installed is passed over with a word. The jobs, with what a peer answers:
 
-    info, dist, cut    none; `bench/plain` gives the same bytes, and the answer in the table is how many
+    info, dist, cut    none; `bench/plain` gives the same bytes, and the answer is how many
+    sew, disc, class, shortest, certify, check, gen
+             none; they are run for the pictures alone
     cycle    CGAL: a shortest cycle that can't be contracted; it may separate where there are several handles
     loop     CGAL: a shortest loop at vertex 0 that can't be contracted; beside the first loop of `surf loops`
     same     CGAL: whether two walks are freely homotopic; `surf same`: whether they are homologous (mod 2)
@@ -17,20 +19,24 @@ libigl has no package there. The programs in `bench/peers` call them; those in C
 Each row has what a peer took and answered, and beside it the same of `surf`: seconds of one processor (user and system,
 the least of the repeats in turn), megabytes, how many loops the answer has and their total length; of `same` the walks
 are two parallel rows of a torus. A program that took more than the limit gets no greater mesh of that row's kind.
-`--save` writes what each program did as a table with tabs, for `bench/charts.py`.
+`--keep` keeps what each program did and which functions were called in `bench/measured`, and shows them in
+docs/speed.md and its pictures (`bench/page.py`).
 """
 import argparse
-import csv
 import filecmp
+import re
 import shutil
 import subprocess
 import sys
 import tempfile
 from collections.abc import Iterator
-from dataclasses import asdict, dataclass, fields
+from dataclasses import astuple, dataclass, fields
 from pathlib import Path
 
-from bench import hard, speed
+if not __package__:  # run by its path: packages are found from the top of the repository
+    sys.path[0] = str(Path(__file__).resolve().parent.parent)
+
+from bench import hard, speed, tables
 
 PEERS = Path(__file__).resolve().parent / "peers"
 
@@ -38,8 +44,9 @@ PEERS = Path(__file__).resolve().parent / "peers"
 TORI = [f"torus {n} {n}" for n in (20, 30, 45, 70, 141, 316)]
 HANDLES = [f"handles 140 142 {h}" for h in (1, 4, 16, 64, 256)]
 SERIES = {"tori": TORI, "handles": HANDLES}
-# The jobs with the words of surf: M and L are a mesh and its lengths, C and D two walks. BYTES are those whose answers
-# are compared by their bytes.
+# The jobs with the words of surf: M and L are a mesh and its lengths, G the words of `gen` for it, C and D two walks,
+# or C what FIRST makes. BYTES are those whose answers are compared with the bytes of `bench/plain`, and LOOPS those
+# whose answers are loops, which are tried on meshes with many handles too.
 OURS = {
     "info": "info M",
     "dist": "dist M L 0",
@@ -49,10 +56,35 @@ OURS = {
     "same": "same M C D",
     "loops": "loops M L 0",
     "basis": "basis M L",
+    "sew": "sew C",
+    "disc": "disc C",
+    "class": "class M C",
+    "shortest": "shortest M L C",
+    "certify": "certify M L 0",
+    "check": "check M L C",
+    "gen": "gen G",
 }
+FIRST = {"sew": "cut M L 0 trim", "disc": "cut M L 0 trim", "check": "certify M L 0"}
 BYTES = ["info", "dist", "cut"]
+LOOPS = ["cycle", "loop", "loops", "basis"]
 # A basis of more vertices wants the word `large`.
 MOST_PLAIN_VERTICES = 20_000
+# The kept tables: what each program did, and the functions of peers.
+ALL_RUNS, FUNCTIONS = "peers", "functions"
+OF_OTHERS = ("CGAL", "PHAT", "GUDHI", "Gmsh")
+# What docs/speed.md shows beside the pictures: jobs on meshes, with equal lengths.
+SHOWN = [
+    ("cycle", "torus 45 45"),
+    ("cycle", "torus 70 70"),
+    ("loop", "torus 316 316"),
+    ("loop", "handles 140 142 16"),
+    ("same", "torus 316 316"),
+    ("loops", "torus 316 316"),
+    ("loops", "handles 140 142 256"),
+    ("basis", "torus 141 141"),
+    ("basis", "handles 140 142 16"),
+    ("basis", "handles 140 142 64"),
+]
 
 
 @dataclass
@@ -65,6 +97,20 @@ class Peer:
     function: str
     version: str
     words: list[str]
+
+
+@dataclass
+class Tried:
+    """A function of a peer that was called, by the version of its Debian package."""
+
+    peer: str
+    version: str
+    job: str
+    function: str
+
+    def release(self) -> str:
+        """The version as the peer's makers name it."""
+        return re.match(r"\d+(\.\d+)*", self.version).group()
 
 
 @dataclass
@@ -153,7 +199,7 @@ def loops_and_total(job: str, runner: speed.Runner) -> tuple[str, str]:
     an answer without loops its bytes."""
     if runner.is_late or runner.is_refused:
         return "", ""
-    if job in BYTES:
+    if job not in (*LOOPS, "same"):
         return "", f"{runner.answer.stat().st_size} bytes"
     lines = [line.split() for line in runner.answer.read_text().splitlines()]
     if job == "same":
@@ -198,8 +244,9 @@ def rows_of(job: str, series: str, programs: dict[str, list[str]], files: hard.F
     """The rows of a job on each mesh of a series, for equal and for scattered lengths."""
     late: set[tuple[str, str]] = set()
     for mesh in SERIES[series]:
-        for weights in (hard.UNIT,) if job in ("info", "same") else (hard.UNIT, hard.SCATTERED):
-            names = files.names(mesh, "" if weights == hard.UNIT else weights, None) | rows_as_walks(mesh, files.work)
+        for weights in (hard.UNIT, hard.SCATTERED) if "L" in OURS[job].split() else (hard.UNIT,):
+            names = rows_as_walks(mesh, files.work)
+            names |= files.names(mesh, "" if weights == hard.UNIT else weights, FIRST.get(job))
             vertices, rank = sizes_of(names["M"][0])
             running = {name: words for name, words in programs.items() if (name, weights) not in late}
             if job == "basis" and vertices > MOST_PLAIN_VERTICES and "large" not in running.get("surf", []):
@@ -222,45 +269,75 @@ def rows_of(job: str, series: str, programs: dict[str, list[str]], files: hard.F
 HEAD = ["job", "mesh", "lengths", "vertices", "peer", "seconds", "MB", "answer", "surf: seconds", "MB", "answer"]
 
 
-def print_beside(rows: list[Row]) -> None:
-    """Prints the rows of one job on one mesh: each peer's, with that of surf beside it."""
+def beside(rows: list[Row]) -> Iterator[list[str]]:
+    """The cells of one job on one mesh: each peer's, with those of surf beside them."""
     ours = rows[0] if rows[0].program == "surf" else None
     for row in rows[1:] if ours else rows:
         cells = [row.job, row.mesh, row.lengths, f"{row.vertices:,}", row.program, *row.figures()]
-        cells += ours.figures() if ours else ["", "", ""]
-        print("| " + " | ".join(cells) + " |", flush=True)
+        yield [*cells, *(ours.figures() if ours else ["", "", ""])]
+
+
+def kept_runs() -> list[dict[str, str]]:
+    """What each program did in the run that was kept, by the names of a row's fields."""
+    head, rows = tables.kept(ALL_RUNS)
+    return [dict(zip(head, row)) for row in rows]
+
+
+def kept_functions() -> list[Tried]:
+    return [Tried(*row) for row in tables.kept(FUNCTIONS)[1]]
+
+
+def shown(runs: list[dict[str, str]]) -> list[list[str]]:
+    """The rows of docs/speed.md, of the programs of others and of surf."""
+    rows = [Row(**run | {"vertices": int(run["vertices"])}) for run in runs if run["lengths"] == hard.UNIT]
+    cells = []
+    for job, mesh in SHOWN:
+        ran = [row for row in rows if (row.job, row.mesh) == (job, mesh) and row.program in ("surf", *OF_OTHERS)]
+        cells += beside(ran) if ran else []
+    return cells
+
+
+def keep(runs: list[Row], found: list[Peer]) -> None:
+    """Keeps what each program did, and the functions that were called."""
+    called = [Tried(peer.name, peer.version, peer.job, peer.function) for peer in found if peer.function]
+    for name, kind, rows in ((ALL_RUNS, Row, runs), (FUNCTIONS, Tried, called)):
+        tables.keep(name, [field.name for field in fields(kind)], [astuple(row) for row in rows])
+    tables.show_on_page()
+
+
+def measured(jobs: list[str], found: list[Peer], files: hard.Files, options) -> Iterator[list[Row]]:
+    """The rows of each job on each mesh."""
+    for job in jobs:
+        large = ["large"] if job == "basis" and hard.knows_large(files) else []
+        programs = {"surf": [str(files.surf), *OURS[job].split(), *large]}
+        programs |= {peer.name: peer.words for peer in found if peer.job == job}
+        for series in SERIES if job in LOOPS else ("tori",):
+            yield from rows_of(job, series, programs, files, options)
 
 
 def main() -> None:
     parser = argparse.ArgumentParser(description=__doc__, formatter_class=argparse.RawDescriptionHelpFormatter)
     parser.add_argument("--surf", type=Path)
-    parser.add_argument("--repeat", type=int, default=3)
-    parser.add_argument("--limit", type=int, default=60, help="processor seconds of one run")
-    parser.add_argument("--save", type=Path)
+    parser.add_argument("--repeat", type=int, default=1)
+    parser.add_argument("--limit", type=int, default=5, help="processor seconds of one run")
+    parser.add_argument("--keep", action="store_true", help="keep all and show it in docs/speed.md")
     parser.add_argument("jobs", nargs="*", metavar="JOB", help=f"of {', '.join(OURS)}; none: all")
     options = parser.parse_args()
+    if options.keep and options.jobs:
+        parser.error("what is kept is a run of all jobs")
     surf = (options.surf or speed.built()).resolve()
-    saved: list[Row] = []
+    runs: list[Row] = []
     with tempfile.TemporaryDirectory() as folder:
-        work = Path(folder)
         found = peers()
         for peer in (peer for peer in found if peer.function):
             print(f"{peer.name} {peer.version}: `{peer.function}` for `{peer.job}`")
-        speed.print_head(HEAD)
-        files = hard.Files(surf, work, options)
-        for job in options.jobs or OURS:
-            large = ["large"] if job == "basis" and hard.knows_large(files) else []
-            programs = {"surf": [str(surf), *OURS[job].split(), *large]}
-            programs |= {peer.name: peer.words for peer in found if peer.job == job}
-            for series in ("tori",) if job in ("same", *BYTES) else SERIES:
-                for rows in rows_of(job, series, programs, files, options):
-                    print_beside(rows)
-                    saved += rows
-    if options.save:
-        with options.save.open("w", newline="") as out:
-            writer = csv.DictWriter(out, [field.name for field in fields(Row)], delimiter="\t", lineterminator="\n")
-            writer.writeheader()
-            writer.writerows(map(asdict, saved))
+        tables.print_head(HEAD)
+        for rows in measured(options.jobs or list(OURS), found, hard.Files(surf, Path(folder), options), options):
+            for cells in beside(rows):
+                print(tables.line(cells), flush=True)
+            runs += rows
+    if options.keep:
+        keep(runs, found)
 
 
 if __name__ == "__main__":

@@ -1,12 +1,12 @@
 #!/usr/bin/env python3
 """Milliseconds that the package surfbasis takes beside the calls of the library, as a table in Markdown.
 
-    bench/python.py [--rows N] [--columns N] [--repeat N] [--installed]
+    bench/python.py [--rows N] [--columns N] [--repeat N] [--installed] [--keep]
 
 On a torus in space, of 316 by 317 vertices where no other is named. Milliseconds are of one processor (user and system
 of this process), the least of the repeats. The package is put together of this repository, with the library that
 `release/libraries.py` makes, and measured in an interpreter that has numpy: this one, `python3` or the system's. With
-`--installed` it is the package that this interpreter imports.
+`--installed` it is the package that this interpreter imports. `--keep` keeps the table in `bench/measured`.
 """
 
 import argparse
@@ -17,6 +17,7 @@ import tempfile
 import time
 from pathlib import Path
 
+from bench import tables
 from python import make_wheel
 from tools import TOP
 from tools.oracles import check_python
@@ -62,8 +63,8 @@ def least(repeat, task, timed):
     return min(row[0] for row in found), min(row[1] for row in found)
 
 
-def measure(given):
-    """Prints the table, by the package that this interpreter imports."""
+def rows(given):
+    """The cells of each task, by the package that this interpreter imports."""
     import surfbasis
     from surfbasis import _callers, _texts
 
@@ -89,12 +90,10 @@ def measure(given):
     ]
     if surface.vertex_count <= 20_000:
         tasks.append(("`surface.basis()`, lengths known", surface.basis))
-    print(f"| {surface.vertex_count:,} vertices, {len(faces):,} faces | package, ms | calls, ms | ratio |")
-    print("|---|---|---|---|")
     for name, task in tasks:
         package, calls = least(given.repeat, task, timed)
-        beside = f"{calls:.0f} | {package / calls:.2f}" if calls else " | "
-        print(f"| {name} | {package:.0f} | {beside} |")
+        beside = [f"{calls:.0f}", f"{package / calls:.2f}"] if calls else ["", ""]
+        yield [name, f"{package:.0f}", *beside]
 
 
 def main():
@@ -103,10 +102,12 @@ def main():
     parser.add_argument("--columns", type=int, default=317)
     parser.add_argument("--repeat", type=int, default=3)
     parser.add_argument("--installed", action="store_true", help="the package that this interpreter imports")
+    parser.add_argument("--keep", action="store_true")
     given = parser.parse_args()
     if not given.installed:
         return measured_apart(sys.argv[1:])
-    measure(given)
+    head = ["what", "package, ms", "calls, ms", "ratio"]
+    tables.tell("python", head, rows(given), given.keep)
     return 0
 
 

@@ -1,25 +1,25 @@
 #!/usr/bin/env python3
 """Shortest bases of the surfaces with handles among the mesh files of a Debian package, as a table in Markdown.
 
-    bench/real.py [--surf PROGRAM] [--package NAME] [--root DIR] [--repeat N] [--limit SECONDS] [--save TABLE]
+    bench/real.py [--surf PROGRAM] [--package NAME] [--root DIR] [--repeat N] [--limit SECONDS] [--keep]
 
 The package is libcgal-demo unless another is named; it is installed, or with --root unpacked as `survey_meshes.py`
 takes it. Each file is taken in by `to_off.py --close`; files of equal bytes count once, and surfaces without a loop
 and what is no surface are left out. Lengths are those of `surf lengths` in millionths of the file's unit, or where an
 edge doesn't fit in these, in thousandths or in billionths; the total is in the file's unit. A surface without a genus
 has its number of crosscaps. Seconds are of one processor, the least of the repeats. A basis above 20,000 vertices
-wants the word `large`; where the program doesn't know it, the row says so. `--save` writes the rows as a table with
-tabs too.
+wants the word `large`; where the program doesn't know it, the row says so. `--keep` keeps the table in
+`bench/measured`.
 """
 import argparse
-import csv
 import hashlib
 import subprocess
+import sys
 import tempfile
 from collections.abc import Iterator
 from pathlib import Path
 
-from bench import speed
+from bench import speed, tables
 from tools.oracles import survey_meshes
 
 HEAD = ["file", "vertices", "genus", "total length", "seconds"]
@@ -85,21 +85,19 @@ def main() -> None:
     parser.add_argument("--surf", type=Path)
     parser.add_argument("--package", default="libcgal-demo")
     parser.add_argument("--root", type=Path)
-    parser.add_argument("--repeat", type=int, default=3)
+    parser.add_argument("--repeat", type=int, default=2)
     parser.add_argument("--limit", type=int, default=60, help="processor seconds of one run")
-    parser.add_argument("--save", type=Path)
+    parser.add_argument("--keep", action="store_true")
     options = parser.parse_args()
     options.surf = (options.surf or speed.built()).resolve()
     with tempfile.TemporaryDirectory() as folder:
         work = Path(folder)
         made = (row(name, mesh, options, work) for name, mesh in surfaces(options.package, options.root, work))
         rows = sorted((cells for cells in made if cells), key=lambda cells: int(cells[1].replace(",", "")))
-    speed.print_head(HEAD)
-    for cells in rows:
-        print("| " + " | ".join(cells) + " |")
-    if options.save:
-        with options.save.open("w", newline="") as out:
-            csv.writer(out, delimiter="\t", lineterminator="\n").writerows([HEAD, *rows])
+    if rows:
+        tables.tell("real", HEAD, rows, options.keep)
+    else:
+        print(f"{options.package} isn't installed or has no surface with a loop: passed over", file=sys.stderr)
 
 
 if __name__ == "__main__":

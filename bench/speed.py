@@ -1,23 +1,34 @@
 #!/usr/bin/env python3
 """Seconds and peak memory of each command on generated meshes, as tables in Markdown.
 
-    bench/speed.py [--surf PROGRAM] [--plain] [--beside NAME=WORDS ..] [--repeat N] [--limit SECONDS] [COMMAND ..]
+    bench/speed.py [--surf PROGRAM] [--no-plain] [--beside NAME=WORDS ..] [--repeat N] [--limit SECONDS]
+                   [--keep] [--part NAME ..] [COMMAND ..]
 
-Takes the program that a gate left, or else builds it (`rt run` in crates/surf), unless one is named, makes tori and
-chains with `surf gen`, and runs each command on them. A mesh that is `shuffled` is a torus whose vertices and faces are
-numbered anew at random, and one that is `spaced` has two spaces between its numbers, so that its lines aren't read in
-one pass. Seconds are of one processor (user and system, the least of the repeats). Megabytes are the most that was
-resident; those below this script's own (some 12) aren't seen, since a program starts as its copy. A run that takes more
-than the limit is `late`. A row for two kinds of lengths has a figure for each, in their order, or one figure where both
-are equal.
+One run makes every table of docs/speed.md but that of peers, which is of `bench/peers.py`. It takes the program that
+a gate left, or else builds it (`rt run` in crates/surf), unless one is named. The parts, of which --part chooses:
 
-There is a table for commands that `bench/plain` has by the basic methods, one for bases, of which it has a sketch, and
-one for the rest. `--plain` builds it by cargo and puts it beside; then, if no command is named, the other tables of
-docs/speed.md follow, by the scripts in OTHERS. `--beside` names another program and the words to start it by, as in
-`--beside old=release/surf`. It takes the same words, and gets columns of its own: its seconds, its megabytes, and the
-ratio of ours to its seconds. Where its bytes are not ours, the ratio has `DIFFERS` after it; where it doesn't take the
-command, the columns are empty. Machines differ and are shared, so ratios say more than seconds, and the programs run
-in turn: a repeat is one run of each.
+    plain       commands that `bench/plain` has by the basic methods
+    sketch      bases and cycles, of which it has a sketch
+    commands    the rest
+    bases, large, handles, real, python
+                tables of the scripts in OTHERS, which can be run alone too
+
+`--keep` keeps each table in `bench/measured` and shows it in docs/speed.md (`bench/page.py`). Words at the end choose
+commands of the first three parts.
+
+For these three, meshes are tori and chains of tori by `surf gen`. A mesh that is `shuffled` is a torus whose vertices
+and faces are numbered anew at random, and one that is `spaced` has two spaces between its numbers, so that its lines
+aren't read in one pass. Seconds are of one processor (user and system, the least of the repeats). Megabytes are the
+most that was resident; those below this script's own (some 12) aren't seen, since a program starts as its copy. A run
+that takes more than the limit is `late`. A row for two kinds of lengths has a figure for each, in their order, or one
+figure where both are equal.
+
+`bench/plain` is built by cargo and stands beside; where cargo isn't there, or with `--no-plain`, the tables have no
+columns of it, and parts that want it are passed over with a word. `--beside` names another program and the words to
+start it by, as in `--beside old=release/surf`. It takes the same words, and gets columns of its own: its seconds, its
+megabytes, and the ratio of ours to its seconds. Where its bytes are not ours, the ratio has `DIFFERS` after it; where
+it doesn't take the command, the columns are empty. Machines differ and are shared, so ratios say more than seconds, and
+the programs run in turn: a repeat is one run of each.
 """
 import argparse
 import filecmp
@@ -25,16 +36,21 @@ import multiprocessing
 import os
 import random
 import shlex
+import shutil
 import subprocess
 import sys
 import tempfile
 from pathlib import Path
 
+if not __package__:  # run by its path: packages are found from the top of the repository
+    sys.path[0] = str(Path(__file__).resolve().parent.parent)
+
+from bench import tables
 from release import proof
 from tools import TOP
 
-TORI = [f"torus {side} {side}" for side in (100, 300, 700)]
-LINEAR = [*TORI, "shuffled 700 700"]
+TORUS = ["torus 700 700"]
+LINEAR = [*TORUS, "shuffled 700 700"]
 READ = [*LINEAR, "spaced 700 700"]
 FAR = ["torus 40 40", "torus 100 100", "torus 100 200", "chain 8 30 30", "chain 64 4 4"]
 
@@ -53,19 +69,25 @@ BASES = [
     ("cycle", FAR, [0, 1], None, "cycle M L"),
 ]
 ALONE = [
-    ("sew", TORI, [0], "cut M L 0 trim", "sew C"),
-    ("class", TORI, [0], "walk", "class M C"),
-    ("certify at a base", TORI, [0], None, "certify M L 0"),
-    ("check of loops", TORI, [0], "certify M L 0", "check M L C"),
-    ("gen", TORI, [0], None, "gen G"),
+    ("sew", TORUS, [0], "cut M L 0 trim", "sew C"),
+    ("class", TORUS, [0], "walk", "class M C"),
+    ("certify at a base", TORUS, [0], None, "certify M L 0"),
+    ("check of loops", TORUS, [0], "certify M L 0", "check M L C"),
+    ("gen", TORUS, [0], None, "gen G"),
     ("shortest", ["torus 128 128", "chain 4 8 8"], [0], "walk", "shortest M L C"),
     ("certify", ["torus 31 32"], [0], None, "certify M L"),
     ("check of a basis", ["torus 31 32", "torus 3 333"], [0], "certify M L", "check M L C"),
 ]
-# The tables, each with what stands beside it: a name, and the words of `bench/plain` for its method.
-TABLES = [(BASIC, ("plain", [])), (BASES, ("sketch", ["--sketch"])), (ALONE, None)]
-# What follows with --plain: the scripts of the other tables of docs/speed.md, with their words.
-OTHERS = [["bench.hard", "--plain", "--bases"], ["bench.hard", "--plain", "--large"]]
+# The tables of this script by their parts, each with the words of `bench/plain` for the method that stands beside.
+TABLES = {"plain": (BASIC, []), "sketch": (BASES, ["--sketch"]), "commands": (ALONE, None)}
+# The parts of other scripts, with their words: S is the program.
+OTHERS = {
+    "bases": "bench.hard --surf S --plain --bases",
+    "large": "bench.hard --surf S --plain --large",
+    "handles": "bench.handles --surf S",
+    "real": "bench.real --surf S",
+    "python": "bench.python",
+}
 
 
 class Refused(Exception):
@@ -210,7 +232,7 @@ class Inputs:
         key = (name, *words)
         if key not in self.made:
             path = self.work / f"{len(self.made)}.{name}"
-            if run([self.surf], words, path, 600) is None:
+            if run([str(self.surf)], words, path, 600) is None:
                 sys.exit(f"{' '.join(words)}: too long")
             self.made[key] = str(path)
         return self.made[key]
@@ -294,45 +316,63 @@ def named(text):
     return name, shlex.split(words)
 
 
-def print_head(cells):
-    print("\n| " + " | ".join(cells) + " |")
-    print("|---" * len(cells) + "|")
-
-
-def print_table(cases, beside, inputs, work, options):
-    """A table of the cases that are asked for, if there are any."""
+def tell_table(part, plain, inputs, work, options):
+    """The table of a part, with the cases that are asked for, if there are any."""
+    cases, method = TABLES[part]
     chosen = [case for case in cases if not options.commands or case[0].split()[0] in options.commands]
     if not chosen:
         return
+    beside = [(part, [str(plain), *method])] if plain and method is not None else []
+    beside += options.beside
     head = ["command", "mesh", "lengths", "seconds", "MB"]
     for name, _ in beside:
         head += [f"{name}: seconds", f"{name}: MB", "ratio"]
-    print_head(head)
-    for case in chosen:
-        for row in rows(case, inputs, work, options, beside):
-            print("| " + " | ".join(row) + " |", flush=True)
+    made = (cells for case in chosen for cells in rows(case, inputs, work, options, beside))
+    tables.tell(part, head, made, options.keep)
 
 
-def main():
+def run_other(part: str, surf: Path, has_plain: bool, is_kept: bool) -> None:
+    """Runs the script of another part. One that fails doesn't keep the rest from being run."""
+    words = filled(OTHERS[part], {"S": [str(surf)]})
+    if "--plain" in words and not has_plain:
+        print(f"{part} wants bench/plain: passed over", file=sys.stderr)
+        return
+    kept = ["--keep"] if is_kept else []
+    if subprocess.run([sys.executable, "-m", *words, *kept], cwd=TOP, check=False).returncode:
+        print(f"{part}: failed", file=sys.stderr)
+
+
+def parsed() -> argparse.Namespace:
     parser = argparse.ArgumentParser(description=__doc__, formatter_class=argparse.RawDescriptionHelpFormatter)
     parser.add_argument("--surf", type=Path)
-    parser.add_argument("--plain", action="store_true", help="build bench/plain and put it beside")
+    parser.add_argument("--no-plain", action="store_true", help="without bench/plain")
     parser.add_argument("--beside", type=named, action="append", default=[])
     parser.add_argument("--repeat", type=int, default=3)
     parser.add_argument("--limit", type=int, default=60, help="processor seconds of one run")
+    parser.add_argument("--keep", action="store_true", help="keep the tables and show them in docs/speed.md")
+    parser.add_argument("--part", choices=[*TABLES, *OTHERS], action="append", help="none: all")
     parser.add_argument("commands", nargs="*", help="their first words; none: all")
     options = parser.parse_args()
+    if options.keep and (options.beside or options.commands or options.no_plain):
+        parser.error("tables are kept whole, with bench/plain beside and nothing else")
+    return options
+
+
+def main():
+    options = parsed()
     surf = (options.surf or built()).resolve()
-    plain = plain_built() if options.plain else None
+    has_plain = not options.no_plain and shutil.which("cargo") is not None
+    plain = plain_built() if has_plain else None
+    parts = options.part or [*TABLES, *([] if options.commands else OTHERS)]
     with tempfile.TemporaryDirectory() as folder:
         work = Path(folder)
         inputs = Inputs(surf, work, options)
-        for cases, method in TABLES:
-            ours = [(method[0], [str(plain), *method[1]])] if plain and method else []
-            print_table(cases, ours + options.beside, inputs, work, options)
-    if plain and not options.commands:
-        for words in OTHERS:
-            subprocess.run([sys.executable, "-m", *words, "--surf", str(surf)], cwd=TOP, check=True)
+        for part in (part for part in TABLES if part in parts):
+            tell_table(part, plain, inputs, work, options)
+    for part in (part for part in OTHERS if part in parts):
+        run_other(part, surf, has_plain, options.keep)
+    if options.keep:
+        tables.show_on_page()
 
 
 if __name__ == "__main__":

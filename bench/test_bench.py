@@ -1,15 +1,18 @@
 #!/usr/bin/env python3
 """Tests of the scripts in this folder: what they make and write, not what they measure."""
+import contextlib
+import io
 import math
 import sys
 import tempfile
 import unittest
+import unittest.mock
 import xml.etree.ElementTree as ElementTree
 from collections import Counter
 from dataclasses import fields
 from pathlib import Path
 
-from bench import charts, meshes, peers, speed
+from bench import charts, meshes, page, peers, speed, tables
 
 SVG = "{http://www.w3.org/2000/svg}"
 
@@ -59,6 +62,50 @@ class Charts(unittest.TestCase):
         counts = {name: len(list(root.iter(f"{SVG}circle"))) for name, root in drawn.items()}
         self.assertEqual(counts, {"speed-seconds.svg": 3, "speed-handles.svg": 1, "speed-memory.svg": 3})
         self.assertTrue(all(root.get("aria-label") for root in drawn.values()))
+
+
+class Page(unittest.TestCase):
+    HEAD = "| command | seconds |"
+    SHOWN = {HEAD: ["| info | 0.14 |", "| dist | 0.20 |"]}
+
+    def page_of(self, *rows: str) -> str:
+        return "\n".join(["# Speed", "", self.HEAD, "|---|---|", *rows, "", "Words."]) + "\n"
+
+    def test_measured_rows_stand_below_their_head(self) -> None:
+        due = self.page_of("| info | 0.14 |", "| dist | 0.20 |")
+        self.assertEqual(page.with_measured(self.page_of("| info | 0.99 |"), self.SHOWN), due)
+        self.assertEqual(page.with_measured(due, self.SHOWN), due)
+        self.assertEqual(list(page.page_faults(due, self.SHOWN)), [])
+
+    def test_a_figure_that_was_not_measured_is_told(self) -> None:
+        info, dist = self.SHOWN[self.HEAD]
+        for rows in ([info.replace("4", "3"), dist], [info], [dist, info], [info, dist, "| loops | 0.1 |"]):
+            self.assertEqual(len(list(page.page_faults(self.page_of(*rows), self.SHOWN))), 1, rows)
+
+    def test_tables_without_measurement_and_the_converse_are_told(self) -> None:
+        other = self.page_of("| info | 0.14 |", "| dist | 0.20 |").replace("seconds", "minutes")
+        first, second = page.page_faults(other, self.SHOWN)
+        self.assertIn("no such table was measured: | command | minutes |", first)
+        self.assertIn("the table lacks: | command | seconds |", second)
+
+    def test_functions_and_versions_in_readme_are_those_tried(self) -> None:
+        tried = [peers.Tried("CGAL", "5.5.1-2", "cycle", "compute"), peers.Tried("PHAT", "1.6-2", "loops", "pairs")]
+        table = ["| | CGAL 5.5.1 | surf |", "|---|---|---|", "| a cycle | `compute` | `cycle` |"]
+        readme = "\n".join(["By PHAT 1.6", "(`pairs`).", "", *table]) + "\n"
+        self.assertEqual(list(page.readme_faults(readme, tried)), [])
+        for old, new in (("compute", "other"), ("5.5.1", "5.5"), ("PHAT 1.6", "PHAT 1.7"), ("pairs", "others")):
+            self.assertEqual(len(list(page.readme_faults(readme.replace(old, new), tried))), 1, new)
+
+    def test_documents_have_what_was_measured(self) -> None:
+        self.assertEqual(page.faults(), [])
+
+    def test_tables_are_kept_as_they_are_told(self) -> None:
+        with tempfile.TemporaryDirectory() as folder, unittest.mock.patch.object(tables, "MEASURED", Path(folder)):
+            with contextlib.redirect_stdout(io.StringIO()) as out:
+                tables.tell("some", ["a", "b"], iter([["1", 'the "2"'], ["3", ""]]), True)
+                tables.tell("some", ["a", "b"], [], True)
+            self.assertEqual(tables.kept("some"), (["a", "b"], [["1", 'the "2"'], ["3", ""]]))
+            self.assertIn('| a | b |\n|---|---|\n| 1 | the "2" |\n', out.getvalue())
 
 
 class Answers(unittest.TestCase):

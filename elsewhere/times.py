@@ -23,7 +23,7 @@ import sys
 import tarfile
 import tempfile
 
-from bench import speed
+from bench import speed, tables
 from elsewhere import make_parts, native, portable, wasm
 from tools import TOP
 
@@ -136,11 +136,11 @@ def measure(options, room: pathlib.Path) -> None:
     programs = {"program": [str(options.program)], **ways(room)}
     names, work = list(programs), folder_in(room, "work")
     inputs, all_runs = speed.Inputs(options.program, work, options), []
-    speed.print_head(["command", "lengths", "program: seconds", *names[1:]])
+    tables.print_head(["command", "lengths", "program: seconds", *names[1:]])
     for case in (case for case in CASES if not options.commands or case[0].split()[0] in options.commands):
         runs = {scatter: runs_of(case, scatter, inputs, list(programs.values()), options) for scatter in case[2]}
         rows = [cells_of(case, scatter, found) for scatter, found in runs.items()]
-        print("| " + " | ".join(speed.joined(rows)) + " |", flush=True)
+        print(tables.line(speed.joined(rows)), flush=True)
         all_runs += runs.values()
     print_greatest(all_runs, names)
     starts = {name: start_of(words, inputs, options) for name, words in programs.items()}
