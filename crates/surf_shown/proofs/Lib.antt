@@ -1,0 +1,3 @@
+pub mod PastLoops
+pub mod ServedLaws
+pub mod Judged
