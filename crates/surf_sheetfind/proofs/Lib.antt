@@ -1,0 +1,9 @@
+pub mod Numbers
+pub mod EdgeRows
+pub mod Rules
+pub mod VertexCerts
+pub mod Tables
+pub mod VertexRows
+pub mod ClassLaws
+pub mod PairLaws
+pub mod BasisLaws

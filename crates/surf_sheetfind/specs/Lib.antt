@@ -1,0 +1,4 @@
+pub mod Pairs
+pub mod Listed
+pub mod Sets
+pub mod Certs
