@@ -1,20 +1,21 @@
 -- Searches that bar vertices which were searched as far.
-use Rattle.surf_surfaces.proofs.Common.{◌≡◌, ℕ, suc, ◌+◌, ◌*◌, ◌<◌, ◌≤◌, Bool, true, false, ◌&&◌, ◌||◌, leb, List, ◌∷◌, ◌++◌, map, filter, All, Contains, bit_xor, sym, ap, ◌∙◌, subst, arith, inl, inr, AllByRecursion, or_cases, and_parts, leb-true, nat_tests, map-map, All-from_recursion, All-contains, numbers, difference, Spanned, xor_comm, InSpan, add_in, in_from_spanned, primal, Split, IsSplit, IsGraphWalk, walk_chain, graph_walk_length, signature_of, Tree, loop, Mesh, edge_count, IsSurface, edge_length, ArePositive, cells_of, class_of, AreShortestTrees, loop_walk, loop_length, over_in, in_wider, some_or_none, walk-append, walk_parts, Place, place_at, least_base, Found, is_within, walks_found, DependsAtPlace}
+use Rattle.surf_surfaces.proofs.Common.{◌≡◌, ℕ, suc, ◌+◌, ◌*◌, ◌<◌, ◌≤◌, Bool, true, false, not, ◌&&◌, ◌||◌, ◌==◌, leb, any_below, cases_Bool, cases_eq, eq-eqb, ne_eqb, false≢true, and_from, List, [], ◌∷◌, ◌++◌, map, filter, All, Contains, bit_xor, sym, ap, ◌∙◌, subst, arith, inl, inr, AllByRecursion, or_cases, and_parts, leb-true, nat_tests, map-map, All-from_recursion, All-contains, numbers, difference, Spanned, xor_comm, InSpan, add_in, in_from_spanned, primal, Split, IsSplit, IsGraphWalk, walk_chain, graph_walk_length, signature_of, Tree, loop, Mesh, edge_count, IsSurface, IsNull, edge_length, ArePositive, cells_of, class_of, AreShortestTrees, loop_walk, loop_length, over_in, in_wider, some_or_none, walk-append, walk_parts, Place, is_no_later, place_at, least_base, Found, is_within, walks_found, DependsAtPlace}
+use Rattle.surf_z2.proofs.ParityLaws.{any_below-found, any_below-none}
 use Rattle.surf_graphs.proofs.Lengths.{loop_bound}
 use Rattle.surf_graphs.proofs.Independence.{signature_of-same, signature_of-linear, walk_sums}
 use Rattle.surf_graphs.proofs.Walks.{walk_in, same_off}
 use Rattle.surf_surfaces.proofs.meshes.CellLaws.{surfaces_are_cells}
-use Rattle.surf_surfaces.proofs.classes.ClassLaws.{some_split}
+use Rattle.surf_surfaces.proofs.classes.ClassLaws.{some_split, null_by_class}
 use Rattle.surf_surfaces.proofs.bases.FewBasesLaws.{no_later_from, least_base_on_way, loop_class}
 use Rattle.surf_surfaces.proofs.bases.FirstFoundLaws.{loop_closed}
 use Rattle.surf_surfaces.proofs.bases.GreedyChoiceLaws.{spanned_from_depends}
 use Rattle.surf_firsts.specs.Near.{is_shorter_by, AgreeOff, IsSoughtFromStart}
 use Rattle.surf_firsts.proofs.Parts.{IsOver, two_parts_over}
-use Rattle.surf_caps.specs.Barred.{DependOnShorterOr, BarredSearchesSuffice, NearPlacesNeedNoMore}
+use Rattle.surf_caps.specs.Barred.{DependOnShorterOr, BarredSearchesSuffice, BarredLoopsComeNoSooner, NearPlacesNeedNoMore}
 use Rattle.surf_caps.specs.Caps.{Sought, AreSoughtFromStart, IsFoundBy, AreEnoughFor}
-use Rattle.surf_caps.proofs.Covers.{all_closed_by}
+use Rattle.surf_caps.proofs.Covers.{no_longer_by, positive_by, all_closed_by}
 use Rattle.surf_caps.proofs.Grow.{caps_grow_enough}
-use Rattle.surf_caps.proofs.Over.{within, depends_within, seen_within, over_by, over_vertex}
+use Rattle.surf_caps.proofs.Over.{within, depends_within, within_depends, seen_within, over_by, over_vertex}
 
 -- a loop is the sum of two closed walks over its root and its least base
 module _ (mesh : Mesh) (lengths : List ℕ) (trees : ℕ → Tree) (surface : IsSurface mesh)
@@ -100,6 +101,63 @@ module _ (mesh : Mesh) (lengths other : List ℕ) (trees others : ℕ → Tree) 
   loop_depends e e_in is_here =
       loop_of_parts mesh lengths trees surface positive shortest d split found enough.loops z e z_in e_in
       (λ w x_in part. over_z (least_base mesh trees z e) (loop_length mesh lengths (trees z) e) w x_in is_here part)
+
+-- other lengths that are nowhere less
+module _ (mesh : Mesh) (lengths other : List ℕ) (trees others : ℕ → Tree) (surface : IsSurface mesh)
+    (positive : ArePositive mesh lengths) (shortest : AreShortestTrees mesh lengths trees)
+    (shortest_too : AreShortestTrees mesh other others)
+    (no_less : (h : ℕ) → h < edge_count mesh → edge_length lengths h ≤ edge_length other h) (d : Split)
+    (split : IsSplit (cells_of mesh) d) (z e : ℕ) (z_in : z < mesh.vertices) (e_in : e < edge_count mesh) where
+  -- a loop of the mesh's lengths that isn't null and comes no later than that of e by the others
+  comes_before : ℕ → Bool
+  comes_before f = not (class_of mesh d (loop_walk mesh (trees z) f) == 0)
+      && is_no_later (place_at mesh lengths trees z f) (place_at mesh other others z e)
+
+  -- where there is none, the loop of e is null: both closed walks of which it is the sum are sums of null loops
+  null_if_none : ((f : ℕ) → f < edge_count mesh → comes_before f ≡ false) → IsNull mesh (loop_walk mesh (others z) e)
+  unfolding comes_before
+  null_if_none none =
+      let positive_too = positive_by mesh lengths trees surface positive shortest other no_less in
+      let size = loop_length mesh other (others z) e in
+      let x = least_base mesh others z e in
+      let walk = loop_walk mesh (others z) e in
+      let closed = loop_closed mesh other others surface shortest_too z e z_in e_in in
+      let each : (f : ℕ) → f < edge_count mesh → is_no_later (place_at mesh lengths trees z f) (size, x) ≡ true →
+      class_of mesh d (loop_walk mesh (trees z) f) ≡ 0 = λ f f_in no_later.
+      zero_or (class_of mesh d (loop_walk mesh (trees z) f)) (is_no_later (place_at mesh lengths trees z f) (size, x))
+      (none f f_in) no_later in
+      let depends : DependsAtPlace mesh other others [] z e =
+      loop_of_parts mesh other others surface positive_too shortest_too d split [] (λ k b l. absurd (omega arith)) z e z_in e_in
+      (λ w x_in part. over_by mesh lengths trees surface positive shortest d split [] x size z w x_in z_in part.closed part.over
+      (let less = no_longer_by (primal (cells_of mesh)) (edge_length lengths) (edge_length other) no_less x w x part.closed in
+      let long = part.no_longer in omega (arith, less, long)) each) in
+      (null_by_class mesh d surface split walk closed).1 (within_depends mesh d surface split [] (size, x) walk depends)
+    where
+      zero_or : (v : ℕ) (b : Bool) → (not (v == 0) && b) ≡ false → b ≡ true → v ≡ 0
+      zero_or v b off on = elim (cases_eq v 0) [
+        | inl zero_is ↦ zero_is
+        | inr some ↦ absurd (false≢true (sym off ∙ and_from (not (v == 0)) b (ap not (ne_eqb v 0 some)) on))
+      ]
+
+  none_sooner : (IsNull mesh (loop_walk mesh (others z) e) → ⊥) →
+      (f : ℕ) × (f < edge_count mesh) × (IsNull mesh (loop_walk mesh (trees z) f) → ⊥)
+      × (is_no_later (place_at mesh lengths trees z f) (place_at mesh other others z e) ≡ true)
+  unfolding comes_before
+  none_sooner some = elim (cases_Bool (any_below (edge_count mesh) comes_before)) [
+    | inr none ↦ absurd (some (null_if_none (any_below-none (edge_count mesh) comes_before none)))
+    | inl found ↦
+        let (f, f_in, is) = any_below-found (edge_count mesh) comes_before found in
+        let walk = loop_walk mesh (trees z) f in
+        let parts = and_parts (not (class_of mesh d walk == 0))
+        (is_no_later (place_at mesh lengths trees z f) (place_at mesh other others z e)) is in (
+          f,
+          f_in,
+          (λ null. false≢true (sym (ap not (eq-eqb (class_of mesh d walk) 0
+              ((null_by_class mesh d surface split walk (loop_closed mesh lengths trees surface shortest z f z_in f_in)).0 null)))
+              ∙ parts.0)),
+          parts.1,
+        )
+  ]
 
 -- what is shorter than a loop at z by more than two ways is shorter than a loop that is longer by no more than these
 shorter_within : (k : Found) (far size other base : ℕ) → size ≤ other + 2 * far →
@@ -220,6 +278,11 @@ barred_searches_suffice mesh lengths other trees others sought set z here found 
     (caps_grow_enough mesh lengths trees surface positive shortest).more sought z here found enough
     (loop_depends mesh lengths other trees others sought set z here found surface positive positive_too shortest
     shortest_too agree z_in enough starts start as_far depend d split)
+
+pub barred_loops_come_no_sooner : BarredLoopsComeNoSooner
+barred_loops_come_no_sooner mesh lengths other trees others z e surface positive shortest shortest_too no_less z_in e_in some =
+    let (d, split) = some_split mesh surface in
+    none_sooner mesh lengths other trees others surface positive shortest shortest_too no_less d split z e z_in e_in some
 
 pub near_places_need_no_more : NearPlacesNeedNoMore
 near_places_need_no_more mesh lengths other trees others sought set z far least most here found surface positive positive_too

@@ -9,12 +9,12 @@ use Rattle.surf_graphs.specs.Trees.{Tree}
 use Rattle.surf_surfaces.specs.Mesh.{Mesh}
 use Rattle.surf_surfaces.specs.Surface.{edge_count, IsSurface}
 use Rattle.surf_surfaces.specs.Walk.{edge_length, ArePositive}
-use Rattle.surf_surfaces.specs.Homology.{IsIndependent}
+use Rattle.surf_surfaces.specs.Homology.{IsNull, IsIndependent}
 use Rattle.surf_surfaces.specs.Cells.{cells_of}
 use Rattle.surf_surfaces.specs.Class.{class_of, AreShortestTrees}
 use Rattle.surf_surfaces.specs.Loop.{loop_walk, loop_length}
 use Rattle.surf_surfaces.specs.Choice.{DependsOn}
-use Rattle.surf_surfaces.specs.FewBases.{Place, place_at, Found, walks_found, DependsAtPlace}
+use Rattle.surf_surfaces.specs.FewBases.{Place, is_no_later, place_at, Found, walks_found, DependsAtPlace}
 use Rattle.surf_surfaces.specs.FewBases.{comes_no_later}
 use Rattle.surf_firsts.specs.Near.{is_shorter_by, AgreeOff, IsSoughtFromStart}
 use Rattle.surf_caps.specs.Caps.{Sought, AreSoughtFromStart, up_to_length, AreEnoughFor, with_places, IsFoundBy}
@@ -33,6 +33,17 @@ BarredSearchesSuffice =
     ((e : ℕ) → e < edge_count mesh → IsTrue (here (place_at mesh other others z e)) →
     DependsAtPlace mesh other others found z e) →
     AreEnoughFor mesh lengths trees (with_places z here sought) found
+
+-- Let other lengths be nowhere less. For each loop by them that isn't null there is one by the mesh's
+-- lengths, at the same vertex, that isn't null and comes no later.
+abbrev pub BarredLoopsComeNoSooner : Type 0
+BarredLoopsComeNoSooner =
+    (mesh : Mesh) (lengths other : List ℕ) (trees others : ℕ → Tree) (z e : ℕ) → IsSurface mesh →
+    ArePositive mesh lengths → AreShortestTrees mesh lengths trees → AreShortestTrees mesh other others →
+    ((h : ℕ) → h < edge_count mesh → edge_length lengths h ≤ edge_length other h) → z < mesh.vertices →
+    e < edge_count mesh → (IsNull mesh (loop_walk mesh (others z) e) → ⊥) →
+    (f : ℕ) × (f < edge_count mesh) × (IsNull mesh (loop_walk mesh (trees z) f) → ⊥)
+    × IsTrue (is_no_later (place_at mesh lengths trees z f) (place_at mesh other others z e))
 
 -- at the vertices that are no farther from z other places too. Ranks are distances
 abbrev pub with_near_places : (ℕ → Tree) → ℕ → ℕ → (Place → Bool) → Sought → Sought

@@ -27,7 +27,8 @@ ghost use Rattle.surf_caps.specs.Stages.{StagesHavePlaces, StagesMeet};
 ghost use Rattle.surf_caps.specs.Stages.{ImagesMeet, ImageHeightsAreHeights, ImageEndsMeet};
 ghost use Rattle.surf_caps.specs.Stages.{FoundByImageDepend, ImagesChoose, ImagesChooseNext};
 ghost use Rattle.surf_caps.specs.Quotients.{QuotientLaw, QuotientChoice, SievesAreQuotients};
-ghost use Rattle.surf_caps.specs.Barred.{BarredSearchesSuffice, NearPlacesNeedNoMore, StageSearchesKeep};
+ghost use Rattle.surf_caps.specs.Barred.{BarredSearchesSuffice, BarredLoopsComeNoSooner};
+ghost use Rattle.surf_caps.specs.Barred.{NearPlacesNeedNoMore, StageSearchesKeep};
 ghost use Rattle.surf_caps.specs.Used.{UsedLaw};
 
 /// A closed walk that is no sum of shorter ones has an edge whose height is above the count of the
@@ -76,9 +77,11 @@ pub fn law_of_quotients()
         (λ (r : Row ℕ). r.reduced) (λ (r : Row ℕ). r.original) }
 {}
 
-/// A search may bar the vertices that were searched as far.
+/// A search may bar the vertices that were searched as far. Its loops come no sooner than those of
+/// one that bars none.
 pub fn law_of_barred_searches()
     ensures barred { BarredSearchesSuffice }
+    ensures no_sooner { BarredLoopsComeNoSooner }
     ensures near { NearPlacesNeedNoMore }
     ensures keep { StageSearchesKeep }
 {}
