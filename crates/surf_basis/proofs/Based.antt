@@ -1,5 +1,5 @@
 -- The loops that a search finds at a base, and those of them that are chosen.
-use Rattle.surf_basis.proofs.Common.{based_at, IsOffered, AreOffered, loop_in, loops_in, IsSigned, ◌≡◌, ℕ, ◌+◌, ◌^◌, ◌<◌, ◌≤◌, ◌++◌, Bool, true, false, not, cond, List, [], ◌∷◌, length, get_or, map, filter, take, All, Contains, IsPermutation, Some, ◌⊎◌, refl, sym, ap, ◌∙◌, subst, arith, inl, inr, IsTrue, ◌==◌, AllByRecursion, cases_Bool, false≢true, le-leb, or_cases, eqb-true, nat_tests, length-map, get_or-map, take_more, map-append, all_filtered, Split, IsSplit, Tree, Mesh, edge_count, IsSurface, ArePositive, IsNull, cells_of, class_of, AreShortestTrees, loop_walk, loop_length, comes_before, loop_at, loops_at, comes_sooner, least_base, IsNonDecreasingBy, recursion_from_All, All-from_recursion, All-contains, Contains-get_or, filter_more, Contains-permutation, All-permutation, contains-map, choice_exists, least_base_on_way, shortest_trees, all_each, all_mapped, IsLoopAt, loops_each, CotreeTables, Candidate, Signed, Chosen, signed_earlier, independent_of, place_of, is_sought, order_of, all_kept, has_length, AreSigned, AreFoundBy, AreFirstFound, HasNoLater, precedes, IsShort, IsNext, is_left, class_small, zero_null}
+use Rattle.surf_basis.proofs.Common.{based_at, IsOffered, AreOffered, loop_in, loops_in, IsSigned, ◌≡◌, ℕ, ◌+◌, ◌^◌, ◌<◌, ◌≤◌, ◌++◌, Bool, true, false, not, cond, List, [], ◌∷◌, length, get_or, map, filter, take, All, Contains, IsPermutation, Some, ◌⊎◌, refl, sym, ap, ◌∙◌, subst, arith, inl, inr, IsTrue, ◌==◌, AllByRecursion, cases_Bool, false≢true, le-leb, or_cases, eqb-true, nat_tests, length-map, get_or-map, take_more, map-append, all_filtered, Split, IsSplit, Tree, Mesh, edge_count, IsSurface, ArePositive, IsNull, cells_of, class_of, AreShortestTrees, loop_walk, loop_length, comes_before, loop_at, loops_at, comes_sooner, least_base, IsNonDecreasingBy, recursion_from_All, All-from_recursion, All-contains, Contains-get_or, filter_more, Contains-permutation, All-permutation, contains-map, choice_exists, least_base_on_way, shortest_trees, all_each, all_mapped, IsLoopAt, loops_each, SignTables, Candidate, Signed, Chosen, signed_earlier, independent_of, place_of, is_sought, order_of, all_kept, has_length, AreSigned, AreFoundBy, AreFirstFound, HasNoLater, precedes, IsShort, IsNext, is_left, class_small, zero_null}
 use Rattle.surf_search.proofs.Common.{merge, Trees, AreChosen, Loop, place_at, IsFound}
 use Rattle.surf_search.specs.declared.told_loops.Ties.TheVariants.{LesserBase, LesserEdge}
 use Rattle.std.proofs.lemmas.List.Sorted.{IsPermutation-append_right, IsPermutation-refl, IsPermutation-trans}
@@ -270,7 +270,7 @@ with_left z left found list short no_later same sorted =
     )
 
 pub offered_at : (mesh : Mesh) (lengths : List ℕ) → IsSurface mesh → ArePositive mesh lengths → edge_count mesh ≤ 2 ^ 32 →
-    mesh.vertices < 2 ^ 32 → (s : CotreeTables) (some : List ℕ) (z : ℕ) → z < mesh.vertices → (limit : Candidate) → limit.base ≡ 4294967295 →
+    mesh.vertices < 2 ^ 32 → (s : SignTables) (some : List ℕ) (z : ℕ) → z < mesh.vertices → (limit : Candidate) → limit.base ≡ 4294967295 →
     (found based kept loops : List Signed) (old new : Chosen) → All (λ n. n ≤ limit.length) some →
     AreFirstFound LesserEdge mesh lengths s (Some limit) z found → based ≡ map (based_at z) found → old.kept ≡ [] → IsNext old based new →
     kept ≡ new.kept → loops ≡ filter (λ (c : Signed). has_length some c.candidate.length) kept → AreOffered mesh lengths s some z loops
@@ -297,7 +297,7 @@ based_small z width found based small is =
     (All-from_recursion (λ c. c.signature < 2 ^ width) (map (based_at z) found)
     (all_mapped (λ c. c.signature < 2 ^ width) (based_at z) found (recursion_from_All (λ c. c.signature < 2 ^ width) found small)))
 
-pub offered_small : (mesh : Mesh) (lengths : List ℕ) → IsSurface mesh → ArePositive mesh lengths → (s : CotreeTables) (width : ℕ) →
+pub offered_small : (mesh : Mesh) (lengths : List ℕ) → IsSurface mesh → ArePositive mesh lengths → (s : SignTables) (width : ℕ) →
     AreSigned mesh s width → (some : List ℕ) (z : ℕ) (loops : List Signed) → AreOffered mesh lengths s some z loops →
     All (λ c. c.signature < 2 ^ width) loops
 offered_small mesh lengths surface positive s width signed some z loops h =

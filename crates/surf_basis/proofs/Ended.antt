@@ -1,5 +1,5 @@
 -- Vertices that are marked: the bases of candidates, and ends of edges with signatures.
-use Rattle.surf_basis.proofs.Common.{HasMarkedEnd, HasSignedEnds, IsBusierEnd, HasBases, ◌≡◌, ◌≢◌, ℕ, ◌<◌, Bool, true, false, List, length, get_or, slice_index, Contains, All, sym, ap, ◌∙◌, subst, arith, inl, inr, ◌⊎◌, refl, slice_index_or, IsTrue, get_or_default, Mesh, edge_count, ends, IsSurface, AreBases, AreDegreesTo, degree_in, ends_in, CotreeTables, Signed, AreMarkedIn, by_degree, is_signed, is_marked, ends_inside}
+use Rattle.surf_basis.proofs.Common.{HasMarkedEnd, HasSignedEnds, IsBusierEnd, HasBases, ◌≡◌, ◌≢◌, ℕ, ◌<◌, Bool, true, false, List, length, get_or, slice_index, Contains, All, sym, ap, ◌∙◌, subst, arith, inl, inr, ◌⊎◌, refl, slice_index_or, IsTrue, get_or_default, Mesh, edge_count, ends, IsSurface, AreBases, AreDegreesTo, degree_in, ends_in, SignTables, Signed, AreMarkedIn, by_degree, is_signed, is_marked, ends_inside}
 
 -- where what is marked stays so, so does an end of an edge
 pub end_stays : (mesh : Mesh) (old new : List Bool) (e : ℕ) →
@@ -50,7 +50,7 @@ each_listed P marked table list same h each k d l =
     (subst (λ (ms : List Bool). IsTrue (is_marked ms (slice_index list k))) same (h.only k l)))
 
 -- the ends that are marked are listed
-pub ends_listed : (mesh : Mesh) → IsSurface mesh → (s : CotreeTables) (marked table : List Bool) (list : List ℕ) →
+pub ends_listed : (mesh : Mesh) → IsSurface mesh → (s : SignTables) (marked table : List Bool) (list : List ℕ) →
     table ≡ marked → length marked ≡ mesh.vertices →
     ((e : ℕ) → e < edge_count mesh → slice_index s.signatures e ≢ 0 → HasMarkedEnd mesh marked e) →
     AreMarkedIn table (length table) list → HasSignedEnds mesh s list
@@ -67,7 +67,7 @@ same_order : (f g : ℕ → ℕ) (p : ℕ × ℕ) → f p.0 ≡ g p.0 → f p.1 
 same_order f g p first second = rw (first, second) refl
 
 -- where a table has the degrees, the busier end by it is the one by the degrees
-pub busier_by_table : (mesh : Mesh) → IsSurface mesh → (s : CotreeTables) (degrees : List ℕ) →
+pub busier_by_table : (mesh : Mesh) → IsSurface mesh → (s : SignTables) (degrees : List ℕ) →
     AreDegreesTo mesh (is_signed s) (edge_count mesh) degrees → (v : ℕ) → IsBusierEnd mesh s (slice_index degrees) v →
     IsBusierEnd mesh s (degree_in mesh (is_signed s)) v
 busier_by_table mesh surface s degrees are v (e, e_in, some, at) =

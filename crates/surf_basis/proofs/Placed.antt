@@ -1,5 +1,5 @@
 -- The place of the first candidate.
-use Rattle.surf_basis.proofs.Common.{first_of, IsFirstPlace, ◌≡◌, ℕ, ◌<◌, ◌^◌, List, [], ◌∷◌, length, All, Option, Some, None, refl, sym, ap, ◌∙◌, subst, arith, Mesh, edge_count, IsSurface, ArePositive, IsNull, cells_of, class_of, loop_walk, loops_at, basis_is_one, choice_exists, least_base_on_way, few_bases_suffice, shortest_trees, first_is_at_least_base, CotreeTables, Candidate, place_of, AreSigned, is_among, IsFirstOf, IsFirstAmong, class_small, depends_null, zero_null}
+use Rattle.surf_basis.proofs.Common.{first_of, IsFirstPlace, ◌≡◌, ℕ, ◌<◌, ◌^◌, List, [], ◌∷◌, length, All, Option, Some, None, refl, sym, ap, ◌∙◌, subst, arith, Mesh, edge_count, IsSurface, ArePositive, IsNull, cells_of, class_of, loop_walk, loops_at, basis_is_one, choice_exists, least_base_on_way, few_bases_suffice, shortest_trees, first_is_at_least_base, SignTables, Candidate, place_of, AreSigned, is_among, IsFirstOf, IsFirstAmong, class_small, depends_null, zero_null}
 use Rattle.surf_surfaces.proofs.Common.{left_edges}
 use Rattle.surf_search.proofs.Common.{Trees, AreChosen, Loop, candidates}
 use Rattle.surf_surfaces.specs.FewBases.{Place, place_at, AreEnough, HasFound, IsFirstFound, MeetsAll}
@@ -7,7 +7,7 @@ use Rattle.surf_basis.proofs.First.{no_first}
 use Rattle.surf_basis.proofs.Leading.{first_kept}
 
 module _ (mesh : Mesh) (lengths : List ℕ) (surface : IsSurface mesh) (positive : ArePositive mesh lengths)
-    (s : CotreeTables) (width : ℕ) (signed : AreSigned mesh s width) (vs : List ℕ) (meets : MeetsAll mesh (is_among vs)) where
+    (s : SignTables) (width : ℕ) (signed : AreSigned mesh s width) (vs : List ℕ) (meets : MeetsAll mesh (is_among vs)) where
   none_enough : (trees : ℕ → Trees) → IsFirstOf mesh lengths (λ x. (trees x).tree) (is_among vs) None →
       AreEnough mesh lengths (λ x. (trees x).tree) (is_among vs) []
   none_enough trees null = record {

@@ -1,5 +1,5 @@
 -- What is known when all bases were gone through.
-use Rattle.surf_basis.proofs.Common.{LoopTables, IsGreedy, Cycle, AreBases, AreCyclesOf, AreKeptOver, AreOffered, IsOffered, independent_of, lengths_at, signed_earlier, slice_index, ◌+◌, HasBases, as_loops, IsTheBasis, ◌≡◌, ℕ, ◌<◌, List, [], length, get_or, map, All, refl, sym, ap, ◌∙◌, subst, arith, range_with_len, IsSplit, Tree, Mesh, edge_count, ends, IsSurface, ArePositive, cells_of, IsLoopCount, loop_length, IsShortestTree, IsChosenBasis, edge_signature, LeastSimpleBasis, basis_is_least, choice_exists, shortest_trees_are_one, ends_in, CotreeTables, split_with, Signed, IsMeasured, HavePlacesOfBasis, AreSigned}
+use Rattle.surf_basis.proofs.Common.{LoopTables, IsGreedy, Cycle, AreBases, AreCyclesOf, AreKeptOver, AreOffered, IsOffered, independent_of, lengths_at, signed_earlier, slice_index, ◌+◌, HasBases, as_loops, IsTheBasis, ◌≡◌, ℕ, ◌<◌, List, [], length, get_or, map, All, refl, sym, ap, ◌∙◌, subst, arith, range_with_len, IsSplit, Tree, Mesh, edge_count, ends, IsSurface, ArePositive, cells_of, IsLoopCount, loop_length, IsShortestTree, IsChosenBasis, edge_signature, LeastSimpleBasis, basis_is_least, choice_exists, shortest_trees_are_one, ends_in, CotreeTables, SignTables, signs_of, split_with, Signed, IsMeasured, HavePlacesOfBasis, AreSigned}
 use Rattle.surf_search.proofs.Common.{IfOk, Loop, merge}
 use Rattle.std.proofs.Common.{Result, Ok, Err}
 use Rattle.surf_basis.proofs.Looped.{empty_basis}
@@ -24,14 +24,14 @@ pub desk_signed : (mesh : Mesh) (lengths : List ℕ) (base : ℕ) (t new : LoopT
     new ≡ record t { cotree = record t.cotree { signatures = new.cotree.signatures } } →
     ((tree : Tree) → IsSplit (cells_of mesh) (split_with tree new.cotree) →
     new.cotree.signatures ≡ map (edge_signature mesh (split_with tree new.cotree)) (range_with_len 0 (edge_count mesh))) →
-    after ≡ new.cotree → AreSigned mesh after width
+    after ≡ new.cotree → AreSigned mesh (signs_of after) width
 desk_signed mesh lengths base t new before after left width g old is_left wide rest signed same =
     let tree = g.grown.tree in
     let split_is : split_with tree new.cotree ≡ split_with tree t.cotree = ap (λ (x : LoopTables). split_with tree x.cotree) rest in
     let split = subst (IsSplit (cells_of mesh)) (sym split_is) g.grown.split in
     let left_is : length new.cotree.left ≡ length left =
     ap (λ (x : LoopTables). length x.cotree.left) rest ∙ ap (λ (c : CotreeTables). length c.left) (sym old) ∙ ap (λ (xs : List ℕ). length xs) (sym is_left) in
-    subst (λ s. AreSigned mesh s width) (sym same) (record {
+    subst (λ s. AreSigned mesh (signs_of s) width) (sym same) (record {
       split = split_with tree new.cotree;
       is_split = split;
       count = left_is ∙ sym wide;
@@ -39,7 +39,7 @@ desk_signed mesh lengths base t new before after left width g old is_left wide r
     })
 
 -- the edges that are left, as they are lent, are as many
-pub left_count : (mesh : Mesh) (t : CotreeTables) (left : List ℕ) → IsLoopCount mesh (length t.left) → left ≡ t.left → IsLoopCount mesh (length left)
+pub left_count : (mesh : Mesh) (t : SignTables) (left : List ℕ) → IsLoopCount mesh (length t.left) → left ≡ t.left → IsLoopCount mesh (length left)
 left_count mesh t left full is = subst (λ (xs : List ℕ). IsLoopCount mesh (length xs)) (sym is) full
 
 -- a loop is as long by all trees of shortest walks
@@ -62,7 +62,7 @@ module _ (mesh : Mesh) (lengths : List ℕ) (surface : IsSurface mesh) (positive
       subst (λ ys. IsChosenBasis mesh lengths trees (as_loops ys)) (sym none) (empty_basis mesh lengths trees surface positive chosen full)
 
   -- what is kept after one more base
-  pub kept_over : (s : CotreeTables) (found : List Signed) (bases : List ℕ) (done base : ℕ) (some : List ℕ) (offered kept next : List Signed) →
+  pub kept_over : (s : SignTables) (found : List Signed) (bases : List ℕ) (done base : ℕ) (some : List ℕ) (offered kept next : List Signed) →
       AreBases mesh bases → HasBases bases found → done < length bases → slice_index bases done ≡ base → some ≡ lengths_at found base →
       AreOffered mesh lengths s some base offered → AreKeptOver mesh lengths s found bases done kept →
       next ≡ independent_of (merge signed_earlier kept offered) → AreKeptOver mesh lengths s found bases (done + 1) next
@@ -70,7 +70,7 @@ module _ (mesh : Mesh) (lengths : List ℕ) (surface : IsSurface mesh) (positive
       kept_more mesh lengths trees surface positive chosen d split found bases done base offered kept next are has l at
       (subst (λ ls. IsOffered mesh lengths trees d ls base offered) same (o trees chosen d split signs)) (k trees chosen d split signs) is
 
-  module _ (s : CotreeTables) (width : ℕ) (signed : AreSigned mesh s width) where
+  module _ (s : SignTables) (width : ℕ) (signed : AreSigned mesh s width) where
     -- the lengths of those kept are those of their loops
     pub all_measured : (found : List Signed) (bases : List ℕ) (done : ℕ) (kept list : List Signed) →
         AreKeptOver mesh lengths s found bases done kept → list ≡ kept → All (λ c. IsMeasured mesh lengths c.candidate) list

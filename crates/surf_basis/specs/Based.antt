@@ -4,7 +4,7 @@ use Rattle.surf_graphs.specs.Cells.{Split, IsSplit}
 use Rattle.surf_surfaces.specs.Mesh.{Mesh}
 use Rattle.surf_surfaces.specs.Cells.{cells_of}
 use Rattle.surf_surfaces.specs.Choice.{Trees, AreChosen, loops_at}
-use Rattle.surf_cotree.specs.Tables.{CotreeTables}
+use Rattle.surf_search.specs.Signing.{SignTables}
 use Rattle.surf_choice.specs.declared.candidate.Signed.{Signed}
 use Rattle.surf_basis.specs.Candidates.{loops_in, IsSigned}
 use Rattle.surf_search.specs.Places.{has_length}
@@ -25,7 +25,7 @@ pub record IsOffered (mesh : Mesh) (lengths : List ℕ) (trees : ℕ → Trees) 
   pub signed : All (IsSigned mesh lengths trees d) loops
 
 -- so they are by all trees that show the choice
-abbrev pub AreOffered : Mesh → List ℕ → CotreeTables → List ℕ → ℕ → List Signed → Type 0
+abbrev pub AreOffered : Mesh → List ℕ → SignTables → List ℕ → ℕ → List Signed → Type 0
 AreOffered mesh lengths s some base loops = (trees : ℕ → Trees) → AreChosen mesh lengths trees → (d : Split) →
     IsSplit (cells_of mesh) d → AreSignatures mesh d s → IsOffered mesh lengths trees d some base loops
 

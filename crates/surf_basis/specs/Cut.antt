@@ -8,6 +8,7 @@ use Rattle.surf_tree.specs.Queues.{AreEven}
 use Rattle.surf_cotree.specs.Tables.{cotree_of}
 use Rattle.surf_loops.specs.Loops.{LoopTables, IsRooted}
 use Rattle.surf_search.specs.Found.{is_among}
+use Rattle.surf_search.specs.Signing.{signs_of}
 use Rattle.surf_basis.specs.Ends.{AreSignedEnds}
 use Rattle.surf_surfaces.specs.Cotree.{left_edges}
 use Rattle.surf_opening.specs.ChosenCut.{AreDivided}
@@ -44,7 +45,7 @@ pub record AreCutVertices (mesh : Mesh) (t : LoopTables) (list : List ℕ) : Typ
 -- the list has the vertices of the cut, or, where all lengths are the same, ends of edges with signatures
 abbrev pub AreToSearch : Mesh → List ℕ → LoopTables → List ℕ → Type 0
 AreToSearch mesh lengths t list = AreCutVertices mesh t list
-    ⊎ ((size : ℕ) × AreEven lengths size × AreSignedEnds mesh t.cotree list)
+    ⊎ ((size : ℕ) × AreEven lengths size × AreSignedEnds mesh (signs_of t.cotree) list)
 
 -- of the tables of a desk: a spanning tree of the vertices, in which each but the base has a parent, a tree of the faces,
 -- and the edges in neither

@@ -2,7 +2,7 @@
 use Rattle.std.specs.Prelude.{ℕ, ◌≡◌, ◌≢◌, ◌<◌, ◌⊎◌, true, false, Bool, List, All, Contains, slice_index, slice_index_or}
 use Rattle.surf_surfaces.specs.Mesh.{Mesh}
 use Rattle.surf_surfaces.specs.Surface.{edge_count, ends}
-use Rattle.surf_cotree.specs.Tables.{CotreeTables}
+use Rattle.surf_search.specs.Signing.{SignTables}
 use Rattle.surf_surfaces.specs.Degrees.{degree_in}
 use Rattle.surf_search.specs.Marks.{by_degree, is_signed}
 
@@ -12,19 +12,19 @@ HasMarkedEnd mesh marked e =
     (slice_index_or marked (ends mesh e).0 false ≡ true) ⊎ (slice_index_or marked (ends mesh e).1 false ≡ true)
 
 -- a list has an end of each edge whose signature isn't empty
-abbrev pub HasSignedEnds : Mesh → CotreeTables → List ℕ → Type 0
+abbrev pub HasSignedEnds : Mesh → SignTables → List ℕ → Type 0
 HasSignedEnds mesh s list =
     (e : ℕ) → e < edge_count mesh → slice_index s.signatures e ≢ 0 →
     Contains list (ends mesh e).0 ⊎ Contains list (ends mesh e).1
 
 -- of the ends of an edge whose signature isn't empty, the vertex is that of the greater degree: the greater end, where
 -- both have the same
-abbrev pub IsBusierEnd : Mesh → CotreeTables → (ℕ → ℕ) → ℕ → Type 0
+abbrev pub IsBusierEnd : Mesh → SignTables → (ℕ → ℕ) → ℕ → Type 0
 IsBusierEnd mesh s degree v = (e : ℕ) × (e < edge_count mesh) × (slice_index s.signatures e ≢ 0)
     × ((by_degree degree (ends mesh e)).1 ≡ v)
 
 -- a list has an end of each edge whose signature isn't empty, and no other vertices: each is the end of such an edge
 -- at which there are more of them (`IsBusierEnd`)
-pub record AreSignedEnds (mesh : Mesh) (s : CotreeTables) (list : List ℕ) : Type 0 where
+pub record AreSignedEnds (mesh : Mesh) (s : SignTables) (list : List ℕ) : Type 0 where
   pub each : HasSignedEnds mesh s list
   pub only : All (IsBusierEnd mesh s (degree_in mesh (is_signed s))) list

@@ -8,7 +8,7 @@ use Rattle.surf_surfaces.specs.Cells.{cells_of}
 use Rattle.surf_surfaces.specs.Class.{class_of}
 use Rattle.surf_surfaces.specs.Choice.{Trees, AreChosen, Loop, loops_below}
 use Rattle.surf_surfaces.specs.FewBases.{place_of_loop}
-use Rattle.surf_cotree.specs.Tables.{CotreeTables}
+use Rattle.surf_search.specs.Signing.{SignTables}
 use Rattle.surf_choice.specs.declared.candidate.Signed.{Signed}
 use Rattle.surf_basis.specs.Candidates.{IsSigned, loops_in}
 use Rattle.surf_search.specs.Places.{is_placed}
@@ -32,7 +32,7 @@ pub record AreKept (mesh : Mesh) (lengths : List ℕ) (trees : ℕ → Trees) (d
   pub signed : All (IsSigned mesh lengths trees d) kept
 
 -- so it is by all trees that show the choice
-abbrev pub AreKeptOver : Mesh → List ℕ → CotreeTables → List Signed → List ℕ → ℕ → List Signed → Type 0
+abbrev pub AreKeptOver : Mesh → List ℕ → SignTables → List Signed → List ℕ → ℕ → List Signed → Type 0
 AreKeptOver mesh lengths s found bases done kept = (trees : ℕ → Trees) → AreChosen mesh lengths trees → (d : Split) →
     IsSplit (cells_of mesh) d → AreSignatures mesh d s → AreKept mesh lengths trees d found bases done kept
 

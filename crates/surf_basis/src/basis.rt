@@ -135,17 +135,17 @@ pub fn least_basis(
 {
     mesh.law_of_surface();
     lengths.law_of_lengths();
-    let desk = signed_desk(alloc, mesh, lengths)?;
-    let count = desk.cotree().left().len();
+    let (desk, signs) = signed_desk(alloc, mesh, lengths)?;
+    let count = signs.left().len();
     if count == 0 {
         return Ok(Vec::new(alloc));
     }
-    let vertices = searched_vertices(alloc, mesh, lengths, &desk)?;
-    let signed = desk.into_cotree();
+    let vertices = searched_vertices(alloc, mesh, lengths, &desk, &signs)?;
+    drop(desk);
     let surface = SignedSurface {
         mesh,
         lengths,
-        signatures: &signed,
+        signatures: &signs,
     };
     basis_over(alloc, &surface, &vertices, count)
 }

@@ -8,7 +8,7 @@ ghost use Rattle.surf_loops.specs.Loops.{IsRooted};
 ghost use Rattle.surf_basis.specs.Cut.{AreCutVertices, AreToSearch, IsLeastSet, HasEnds, HasVertex, IsClosedUpward, IsDividedBy};
 ghost use Rattle.surf_search.specs.Found.{is_among};
 ghost use Rattle.surf_search.specs.Passing.{is_marked};
-ghost use Rattle.surf_search.specs.Signing.{AreSigned};
+ghost use Rattle.surf_search.specs.Signing.{AreSigned, signs_of};
 
 use crate::ends::signed_ends;
 use std::alloc::Global;
@@ -16,7 +16,7 @@ use surf_base::{EdgeId, NoMemory, VertexId};
 use surf_lengths::Lengths;
 use surf_loops::LoopDesk;
 use surf_mesh::HalfMesh;
-use surf_search::list_marked;
+use surf_search::{EdgeSigns, list_marked};
 use surf_tree::{TreeDesk, even_length};
 
 // Marks a vertex and those on its way up to the base, as far as the first that is marked already.
@@ -78,9 +78,11 @@ pub(crate) fn searched_vertices(
     mesh: &HalfMesh,
     lengths: &Lengths,
     desk: &LoopDesk,
+    signs: &EdgeSigns,
 ) -> Result<Vec<VertexId>, NoMemory>
     requires divided { IsDividedBy mesh.now desk.now }
-    requires signed { (count : ℕ) × AreSigned mesh.now desk.now.cotree count }
+    requires signs { signs.now ≡ signs_of desk.now.cotree }
+    requires signed { (count : ℕ) × AreSigned mesh.now signs.now count }
     ensures inside { IfOk result (λ list. All (λ v. v < mesh.now.vertices) list.items) }
     ensures which { IfOk result (λ list. AreToSearch mesh.now lengths.now desk.now list.items) }
     ensures met { IfOk result (λ list. MeetsAll mesh.now (is_among list.items)) }
@@ -90,7 +92,7 @@ pub(crate) fn searched_vertices(
     if even_length(lengths).is_none() {
         return Ok(cut);
     }
-    let ends = signed_ends(alloc, mesh, desk.cotree())?;
+    let ends = signed_ends(alloc, mesh, signs)?;
     if ends.len() < cut.len() {
         return Ok(ends);
     }

@@ -5,9 +5,8 @@ ghost use Rattle.surf_basis.specs.Ends.{AreSignedEnds, HasMarkedEnd, IsBusierEnd
 
 use std::alloc::Global;
 use surf_base::{EdgeId, NoMemory, VertexId};
-use surf_cotree::CotreeDesk;
 use surf_mesh::HalfMesh;
-use surf_search::{count_signed, lesser_first, list_marked};
+use surf_search::{EdgeSigns, count_signed, lesser_first, list_marked};
 
 // Marks the second of two vertices, unless the first is marked.
 fn mark_one(first: VertexId, second: VertexId, marked: &mut [bool])
@@ -28,7 +27,7 @@ fn mark_one(first: VertexId, second: VertexId, marked: &mut [bool])
 
 // Marks an end of each edge whose signature isn't empty: the one at which there are more such edges
 // in all, unless the other one is marked. So few vertices are marked.
-fn mark_ends(mesh: &HalfMesh, signatures: &CotreeDesk, degrees: &[u32], marked: &mut [bool])
+fn mark_ends(mesh: &HalfMesh, signatures: &EdgeSigns, degrees: &[u32], marked: &mut [bool])
     requires table { length signatures.now.signatures ≡ edge_count mesh.now }
     requires degrees { length degrees.now ≡ mesh.now.vertices }
     requires marks { length marked.old ≡ mesh.now.vertices }
@@ -42,7 +41,7 @@ fn mark_ends(mesh: &HalfMesh, signatures: &CotreeDesk, degrees: &[u32], marked: 
     mesh.law_of_surface();
     for e in 0..mesh.edges() {
         let edge = EdgeId::new(e);
-        if !signatures.signature(edge).is_empty() {
+        if signatures.is_signed(edge) {
             let (low, high) = mesh.ends(edge);
             let (less, more) = lesser_first(degrees, low, high);
             mark_one(less, more, marked);
@@ -56,7 +55,7 @@ fn mark_ends(mesh: &HalfMesh, signatures: &CotreeDesk, degrees: &[u32], marked: 
 pub(crate) fn signed_ends(
     alloc: Global,
     mesh: &HalfMesh,
-    signatures: &CotreeDesk,
+    signatures: &EdgeSigns,
 ) -> Result<Vec<VertexId>, NoMemory>
     requires table { length signatures.now.signatures ≡ edge_count mesh.now }
     ensures inside { IfOk result (λ list. All (λ v. v < mesh.now.vertices) list.items) }

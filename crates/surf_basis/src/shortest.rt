@@ -10,7 +10,7 @@ ghost use Rattle.surf_tree.specs.Grown.{IsGrown as IsTreeGrown};
 ghost use Rattle.surf_loops.specs.Loops.{AreLoopTables};
 ghost use Rattle.surf_search.specs.Found.{is_among};
 ghost use Rattle.surf_search.specs.Marks.{bits_backwards};
-ghost use Rattle.surf_search.specs.Signing.{AreSigned};
+ghost use Rattle.surf_search.specs.Signing.{AreSigned, signs_of};
 ghost use Rattle.surf_basis.specs.Candidates.{first_head, loop_in, IsFirstPlace};
 ghost use Rattle.surf_basis.specs.Cut.{AreToSearch, IsDividedBy};
 ghost use Rattle.surf_basis.specs.Cycles.{first_of, IsFirstCandidate, IsShortestCycle, AllSeparate};
@@ -26,7 +26,7 @@ use surf_choice::Candidate;
 use surf_lengths::Lengths;
 use surf_loops::LoopDesk;
 use surf_mesh::HalfMesh;
-use surf_search::{SignedSurface, first_among, scatter};
+use surf_search::{EdgeSigns, SignedSurface, first_among, scatter};
 
 // The first candidate of a desk, if it has one.
 fn first_of(desk: &LoopDesk) -> Option<Candidate>
@@ -68,22 +68,25 @@ fn scattered_vertices(
     mesh: &HalfMesh,
     lengths: &Lengths,
     desk: &LoopDesk,
+    signs: &EdgeSigns,
 ) -> Result<Vec<VertexId>, NoMemory>
     requires divided { IsDividedBy mesh.now desk.now }
-    requires signed { (count : ℕ) × AreSigned mesh.now desk.now.cotree count }
+    requires signs { signs.now ≡ signs_of desk.now.cotree }
+    requires signed { (count : ℕ) × AreSigned mesh.now signs.now count }
     ensures inside { IfOk result (λ list. All (λ v. v < mesh.now.vertices) list.items) }
     ensures which { IfOk result (λ list. (vertices : List ℕ)
         × AreToSearch mesh.now lengths.now desk.now vertices × IsPermutation vertices list.items) }
     ensures met { IfOk result (λ list. MeetsAll mesh.now (is_among list.items)) }
     ensures scattered { IfOk result (λ list. IsNonDecreasingBy bits_backwards list.items) }
 {
-    let mut vertices = searched_vertices(alloc, mesh, lengths, desk)?;
+    let mut vertices = searched_vertices(alloc, mesh, lengths, desk, signs)?;
     scatter(&mut vertices);
     Ok(vertices)
 }
 
-// The length and the base of the first candidate at any base. What it is found by isn't kept, so
-// that its memory is free for the desk of its loop.
+// The length and the base of the first candidate at any base. The trees are let go of as soon as
+// edges are signed, and so is what it is found by, so that its memory is free for the desk of its
+// loop.
 fn place_of_first(
     alloc: Global,
     mesh: &HalfMesh,
@@ -95,14 +98,14 @@ fn place_of_first(
 {
     mesh.law_of_surface();
     lengths.law_of_lengths();
-    let desk = signed_desk(alloc, mesh, lengths)?;
-    let vertices = scattered_vertices(alloc, mesh, lengths, &desk)?;
-    let count = desk.cotree().left().len();
-    let signed = desk.into_cotree();
+    let (desk, signs) = signed_desk(alloc, mesh, lengths)?;
+    let vertices = scattered_vertices(alloc, mesh, lengths, &desk, &signs)?;
+    drop(desk);
+    let count = signs.left().len();
     let surface = SignedSurface {
         mesh,
         lengths,
-        signatures: &signed,
+        signatures: &signs,
     };
     first_place(alloc, &surface, &vertices, count)
 }

@@ -1,5 +1,5 @@
 -- Caps as great as edges ask for meet all closed walks, so what is kept has the places of the basis.
-use Rattle.surf_search.proofs.Common.{◌≡◌, ℕ, zero, suc, ◌<◌, ◌≤◌, ◌^◌, ◌&&◌, true, List, [], ◌∷◌, length, get_or, map, take, All, Option, Some, None, refl, sym, ap, ◌∙◌, subst, arith, inl, inr, IsTrue, nat_le, slice_index, min, cases_Bool, cases_lt, leb-true, le-leb, or_cases, or_left, or_right, and_from, and_parts, false≢true, nat_tests, numbers, Independent, Spanned, sorted_from_order, Split, IsSplit, signature, Tree, Mesh, edge_count, ends, IsSurface, IsClosed, ArePositive, IsIndependent, IsLoopCount, cells_of, class_of, AreShortestTrees, edge_signature, Trees, AreChosen, Loop, IsChosenBasis, length-map, take-map, get_or-map, recursion_from_All, All-from_recursion, All-contains, small, Place, place_at, is_no_later, Found, HasFound, IsWithin, walks_found, place_of_loop, MeetsAll, independent_by_classes, all_mapped, Sought, AreSized, AreEnoughFor, HaveAskedEnds, MeetsUpTo, asks, both, either, everywhere, limited, caps_grow_enough, both_start, limited_start, found_are_walks, CotreeTables, Candidate, Signed, Chosen, signatures, place_of, is_sought, last_of, limit_of, stands_before, before_last, limit_none, limit_last, is_among, is_within_cap, cap_at, in_caps, AreKeptTo, IsAsked, HasCappedEnd, AreCapped, AreSigned, AreSignatures}
+use Rattle.surf_search.proofs.Common.{◌≡◌, ℕ, zero, suc, ◌<◌, ◌≤◌, ◌^◌, ◌&&◌, true, List, [], ◌∷◌, length, get_or, map, take, All, Option, Some, None, refl, sym, ap, ◌∙◌, subst, arith, inl, inr, IsTrue, nat_le, slice_index, min, cases_Bool, cases_lt, leb-true, le-leb, or_cases, or_left, or_right, and_from, and_parts, false≢true, nat_tests, numbers, Independent, Spanned, sorted_from_order, Split, IsSplit, signature, Tree, Mesh, edge_count, ends, IsSurface, IsClosed, ArePositive, IsIndependent, IsLoopCount, cells_of, class_of, AreShortestTrees, edge_signature, Trees, AreChosen, Loop, IsChosenBasis, length-map, take-map, get_or-map, recursion_from_All, All-from_recursion, All-contains, small, Place, place_at, is_no_later, Found, HasFound, IsWithin, walks_found, place_of_loop, MeetsAll, independent_by_classes, all_mapped, Sought, AreSized, AreEnoughFor, HaveAskedEnds, MeetsUpTo, asks, both, either, everywhere, limited, caps_grow_enough, both_start, limited_start, found_are_walks, SignTables, Candidate, Signed, Chosen, signatures, place_of, is_sought, last_of, limit_of, stands_before, before_last, limit_none, limit_last, is_among, is_within_cap, cap_at, in_caps, AreKeptTo, IsAsked, HasCappedEnd, AreCapped, AreSigned, AreSignatures}
 use Rattle.surf_caps.specs.Heights.{AreHeights}
 use Rattle.surf_caps.proofs.Covers.{enough_everywhere}
 use Rattle.surf_caps.proofs.Heights.{asked_ends_meet}
@@ -11,7 +11,7 @@ use Rattle.surf_search.proofs.Searched.{among_contains}
 use Rattle.surf_search.proofs.Looped.{tells_sizes, tells_walks, tells_long, tells_at, tells_order, signed_of}
 
 -- the signature of an edge is as small as there are left edges
-pub sign_small : (mesh : Mesh) (s : CotreeTables) (width e : ℕ) → AreSigned mesh s width → e < edge_count mesh →
+pub sign_small : (mesh : Mesh) (s : SignTables) (width e : ℕ) → AreSigned mesh s width → e < edge_count mesh →
     slice_index s.signatures e < 2 ^ width
 sign_small mesh s width e signed e_in =
     let own : slice_index s.signatures e ≡ edge_signature mesh signed.split e = at_edge mesh signed.split s e signed.signatures e_in in
@@ -81,7 +81,7 @@ asked_within kept ask set most cap size base (inr h) short le on = of h.count re
 module _ (mesh : Mesh) (lengths : List ℕ) (trees : ℕ → Tree) (surface : IsSurface mesh)
     (positive : ArePositive mesh lengths) (shortest : AreShortestTrees mesh lengths trees) (d : Split)
     (split : IsSplit (cells_of mesh) d) where
-  module _ (s : CotreeTables) (are : AreSignatures mesh d s) (limit : Option Candidate) (sought : Sought) (kept : List Signed)
+  module _ (s : SignTables) (are : AreSignatures mesh d s) (limit : Option Candidate) (sought : Sought) (kept : List Signed)
       (k : AreKeptTo mesh lengths trees d limit sought kept) (most : ℕ) (caps : List ℕ)
       (capped : AreCapped mesh s kept most caps) where
     -- what is asked of an edge; all is asked of what is no edge

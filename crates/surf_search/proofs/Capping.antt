@@ -1,5 +1,5 @@
 -- Caps of vertices: the earlier of a limit and a cap, caps that rise, and what edges ask for.
-use Rattle.surf_search.proofs.Common.{◌≡◌, ℕ, ◌<◌, ◌≤◌, ◌+◌, true, List, [], ◌∷◌, ◌++◌, length, get_or, set, replicate, All, Contains, IsPermutation, Option, Some, None, refl, sym, ap, ◌∙◌, subst, arith, inl, inr, nat_le, slice_index, min, cases_eq, cases_lt, leb-true, le-leb, or_cases, or_left, nat_tests, Contains-permutation, Mesh, edge_count, ends, IsSurface, Place, comes_sooner, All-contains, Contains-append_left, Contains-append_right, get_or-set_same, get_or-set_other, get_or_past, get_or-replicate, length-replicate, ends_in, CotreeTables, Candidate, Signed, is_sought, Ask, is_within_cap, cap_at, IsCapped, IsAsked, HasCappedEnd, AreCapped, AreNoLess, AreAsks, AreRising, by_degree}
+use Rattle.surf_search.proofs.Common.{◌≡◌, ℕ, ◌<◌, ◌≤◌, ◌+◌, true, List, [], ◌∷◌, ◌++◌, length, get_or, set, replicate, All, Contains, IsPermutation, Option, Some, None, refl, sym, ap, ◌∙◌, subst, arith, inl, inr, nat_le, slice_index, min, cases_eq, cases_lt, leb-true, le-leb, or_cases, or_left, nat_tests, Contains-permutation, Mesh, edge_count, ends, IsSurface, Place, comes_sooner, All-contains, Contains-append_left, Contains-append_right, get_or-set_same, get_or-set_other, get_or_past, get_or-replicate, length-replicate, ends_in, SignTables, Candidate, Signed, is_sought, Ask, is_within_cap, cap_at, IsCapped, IsAsked, HasCappedEnd, AreCapped, AreNoLess, AreAsks, AreRising, by_degree}
 use Rattle.surf_search.proofs.Asked.{within_by_none}
 use Rattle.surf_search.proofs.Counted.{as_read_or_turned}
 
@@ -94,7 +94,7 @@ capped_still mesh old new least e more h = elim h [
 ]
 
 -- caps that are no less at the vertices are great enough too
-pub capped_more : (mesh : Mesh) → IsSurface mesh → (s : CotreeTables) (kept : List Signed) (most : ℕ) (old new : List ℕ) →
+pub capped_more : (mesh : Mesh) → IsSurface mesh → (s : SignTables) (kept : List Signed) (most : ℕ) (old new : List ℕ) →
     length old ≡ mesh.vertices → ((v : ℕ) → v < length old → cap_at old v ≤ cap_at new v) →
     AreCapped mesh s kept most old → AreCapped mesh s kept most new
 capped_more mesh surface s kept most old new n more h e e_in =
@@ -142,11 +142,11 @@ rising_permuted caps reached below old new same h v l = elim (h v l) [
 
 -- ---- what edges ask for
 
-pub asks_none : (s : CotreeTables) (kept : List Signed) (most : ℕ) (asks : List Ask) → AreAsks s kept most 0 asks
+pub asks_none : (s : SignTables) (kept : List Signed) (most : ℕ) (asks : List Ask) → AreAsks s kept most 0 asks
 asks_none s kept most asks e l some = absurd (omega (arith, l))
 
 -- an edge without a signature
-pub asks_same : (s : CotreeTables) (kept : List Signed) (most n : ℕ) (asks : List Ask) → AreAsks s kept most n asks →
+pub asks_same : (s : SignTables) (kept : List Signed) (most n : ℕ) (asks : List Ask) → AreAsks s kept most n asks →
     slice_index s.signatures n ≡ 0 → AreAsks s kept most (n + 1) asks
 asks_same s kept most n asks h none e l some = elim (cases_lt e n) [
   | inl less ↦ h e less some
@@ -154,7 +154,7 @@ asks_same s kept most n asks h none e l some = elim (cases_lt e n) [
 ]
 
 -- one with a signature
-pub asks_more : (s : CotreeTables) (kept : List Signed) (most n ask : ℕ) (a : Ask) (old new : List Ask) →
+pub asks_more : (s : SignTables) (kept : List Signed) (most n ask : ℕ) (a : Ask) (old new : List Ask) →
     AreAsks s kept most n old → new ≡ old ++ a ∷ [] → a.edge ≡ n → IsAsked kept ask (slice_index s.signatures n) →
     a.length ≡ min ask most → AreAsks s kept most (n + 1) new
 asks_more s kept most n ask a old new h is at asked size e l some = elim (cases_lt e n) [
@@ -171,7 +171,7 @@ asks_more s kept most n ask a old new h is at asked size e l some = elim (cases_
 ]
 
 -- where an end of each edge has what is asked, caps are great enough
-pub asks_capped : (mesh : Mesh) (s : CotreeTables) (kept : List Signed) (most : ℕ) (caps : List ℕ) (asks sorted : List Ask) →
+pub asks_capped : (mesh : Mesh) (s : SignTables) (kept : List Signed) (most : ℕ) (caps : List ℕ) (asks sorted : List Ask) →
     AreAsks s kept most (edge_count mesh) asks → IsPermutation asks sorted →
     All (λ a. HasCappedEnd mesh caps a.length a.edge) sorted → AreCapped mesh s kept most caps
 asks_capped mesh s kept most caps asks sorted h same all e e_in = elim (cases_eq (slice_index s.signatures e) 0) [

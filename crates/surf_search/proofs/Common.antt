@@ -43,7 +43,7 @@ pub use Rattle.surf_search.specs.Rounds.{AreAsks, AreCapped, AreDone, AreFalling
 pub use Rattle.surf_search.specs.Rounds.{AreRaisedTo, AreRising, HasCappedEnd, IsAsked, IsBarring, IsCapped, IsKeptAt}
 pub use Rattle.surf_search.specs.Rounds.{IsWider, KeepsInRound, StaysEnough, cap_at, fall_order, in_caps, in_round, is_within_cap}
 pub use Rattle.surf_search.specs.Rounds.{told_by, told_of}
-pub use Rattle.surf_search.specs.Signing.{AreSignatures, AreSigned}
+pub use Rattle.surf_search.specs.Signing.{AreSignatures, AreSigned, SignTables, signs_of}
 pub use Rattle.surf_search.specs.Walks.{AddsWay, AreWalksOf, AreWritten, AreWrittenTo, HasReachedEnds, IsLoopWalk}
 pub use Rattle.surf_search.specs.Walks.{IsKnown, IsMeasured, IsReachedTo, IsWalkOf}
 pub use Rattle.surf_search.specs.Ways.{AreWays, HasNone, HasParent, IsNumbered, IsWayAt, WayTables, class_at}

@@ -1,5 +1,5 @@
 -- How many edges with signatures that aren't empty there are at each vertex, and their ends in order of that.
-use Rattle.surf_search.proofs.Common.{not, ◌≡◌, ◌≢◌, ℕ, ◌+◌, ◌<◌, ◌⊎◌, inl, inr, sym, refl, subst, ap, ◌∙◌, List, length, get_or, arith, ne_eqb, nat_lt, slice_index, slice_set, cases_Bool, Mesh, edge_count, ends, IsSurface, AreDegreesTo, get_or-set_same, get_or-set_other, length-set, ends_below, CotreeTables, degrees_more, by_degree, is_signed}
+use Rattle.surf_search.proofs.Common.{not, ◌≡◌, ◌≢◌, ℕ, ◌+◌, ◌<◌, ◌⊎◌, inl, inr, sym, refl, subst, ap, ◌∙◌, List, length, get_or, arith, ne_eqb, nat_lt, slice_index, slice_set, cases_Bool, Mesh, edge_count, ends, IsSurface, AreDegreesTo, get_or-set_same, get_or-set_other, length-set, ends_below, SignTables, degrees_more, by_degree, is_signed}
 
 -- one entry of a table is made one more
 pub record IsRaised (at : ℕ) (old new : List ℕ) : Type 0 where
@@ -24,7 +24,7 @@ ends_apart mesh surface e e_in p is same =
     omega (arith, below.0, low, high, same)
 
 -- an edge whose signature isn't empty counts at its ends
-pub degrees_raised : (mesh : Mesh) (s : CotreeTables) (e : ℕ) (old mid new : List ℕ) (p : ℕ × ℕ) → p.0 ≢ p.1 →
+pub degrees_raised : (mesh : Mesh) (s : SignTables) (e : ℕ) (old mid new : List ℕ) (p : ℕ × ℕ) → p.0 ≢ p.1 →
     p ≡ ends mesh e → slice_index s.signatures e ≢ 0 → AreDegreesTo mesh (is_signed s) e old → IsRaised p.0 old mid →
     IsRaised p.1 mid new → AreDegreesTo mesh (is_signed s) (e + 1) new
 degrees_raised mesh s e old mid new p apart is some so_far first second =

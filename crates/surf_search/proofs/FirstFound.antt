@@ -1,5 +1,5 @@
 -- The first of the loops at the vertices of a list.
-use Rattle.surf_search.proofs.Common.{◌≡◌, ◌≢◌, ℕ, suc, ◌<◌, ◌+◌, ◌⊎◌, Bool, true, false, eqb, cond, List, [], ◌∷◌, length, get_or, take, fold, Contains, Option, Some, None, refl, sym, ap, ◌∙◌, subst, arith, inl, inr, eqb-true, IsTrue, AllByRecursion, cases_Bool, cases_eq, or_cases, false≢true, eq-eqb, nat_tests, All-from_recursion, All-contains, Split, IsSplit, Tree, Mesh, edge_count, IsSurface, ArePositive, IsNull, cells_of, class_of, AreShortestTrees, loop_walk, loop_length, no_member, Place, is_no_later, comes_sooner, place_at, with_vertex, null_by_class, no_later-trans, no_later-same, loop_closed, CotreeTables, Candidate, Signed, earlier, place_of, is_sought, IsFound, AreFoundBy, is_among, earlier_of, first_from, IsFirstOf, IsFirstAmong}
+use Rattle.surf_search.proofs.Common.{◌≡◌, ◌≢◌, ℕ, suc, ◌<◌, ◌+◌, ◌⊎◌, Bool, true, false, eqb, cond, List, [], ◌∷◌, length, get_or, take, fold, Contains, Option, Some, None, refl, sym, ap, ◌∙◌, subst, arith, inl, inr, eqb-true, IsTrue, AllByRecursion, cases_Bool, cases_eq, or_cases, false≢true, eq-eqb, nat_tests, All-from_recursion, All-contains, Split, IsSplit, Tree, Mesh, edge_count, IsSurface, ArePositive, IsNull, cells_of, class_of, AreShortestTrees, loop_walk, loop_length, no_member, Place, is_no_later, comes_sooner, place_at, with_vertex, null_by_class, no_later-trans, no_later-same, loop_closed, SignTables, Candidate, Signed, earlier, place_of, is_sought, IsFound, AreFoundBy, is_among, earlier_of, first_from, IsFirstOf, IsFirstAmong}
 use Rattle.surf_search.proofs.Searched.{among_more, zero_null}
 
 -- ---- the first of a list
@@ -31,7 +31,7 @@ step_at (Some c) s = elim (cases_Bool (earlier c s.candidate)) [
   | inr off ↦ subst (λ b. IsNoLater (cond b (Some c) (Some s.candidate)) (place_of s.candidate)) (sym off) (no_later-same (place_of s.candidate))
 ]
 
-first_before : (o : Option Candidate) (found : List Signed) (p : Place) → IsNoLater o p → IsNoLater (fold earlier_of o found) p
+pub first_before : (o : Option Candidate) (found : List Signed) (p : Place) → IsNoLater o p → IsNoLater (fold earlier_of o found) p
 first_before o [] p h = h
 first_before o (s ∷ ss) p h = first_before (earlier_of o s) ss p (step_before o s p h)
 
@@ -51,7 +51,7 @@ step_member (Some c) s = elim (cases_Bool (earlier c s.candidate)) [
   | inr off ↦ inr (ap (λ b. cond b (Some c) (Some s.candidate)) off)
 ]
 
-first_member : (o : Option Candidate) (found : List Signed) →
+pub first_member : (o : Option Candidate) (found : List Signed) →
     (fold earlier_of o found ≡ o) ⊎ ((s : Signed) × Contains found s × (fold earlier_of o found ≡ Some s.candidate))
 first_member o [] = inl refl
 first_member o (s ∷ ss) = elim (first_member (earlier_of o s) ss) [
@@ -66,27 +66,27 @@ some_from : (o : Option Candidate) (p : Place) → IsNoLater o p → (c : Candid
 some_from None p h = absurd h
 some_from (Some c) p h = (c, refl, h)
 
-not_sooner : (a p : Place) → comes_sooner a p ≡ false → is_no_later a p ≡ true
+pub not_sooner : (a p : Place) → comes_sooner a p ≡ false → is_no_later a p ≡ true
 not_sooner a p h = grind (arith, nat_tests)
 
 module _ (mesh : Mesh) (lengths : List ℕ) (trees : ℕ → Tree) (surface : IsSurface mesh)
     (positive : ArePositive mesh lengths) (shortest : AreShortestTrees mesh lengths trees) (d : Split)
     (split : IsSplit (cells_of mesh) d) where
-  abbrev is_null : ℕ → ℕ → Type 0
+  abbrev pub is_null : ℕ → ℕ → Type 0
   is_null z e = IsNull mesh (loop_walk mesh (trees z) e)
 
   -- each loop at the vertices of a set that isn't null comes no earlier
-  abbrev Least : (ℕ → Bool) → Option Candidate → Type 0
+  abbrev pub Least : (ℕ → Bool) → Option Candidate → Type 0
   Least set o = (y f : ℕ) → y < mesh.vertices → IsTrue (set y) → f < edge_count mesh → (is_null y f → ⊥) →
       IsNoLater o (place_at mesh lengths trees y f)
 
-  least_of : (set : ℕ → Bool) (o : Option Candidate) → IsFirstOf mesh lengths trees set o → Least set o
+  pub least_of : (set : ℕ → Bool) (o : Option Candidate) → IsFirstOf mesh lengths trees set o → Least set o
   least_of set None h y f y_in in_set f_in some = some (h y f y_in in_set f_in)
   least_of set (Some c) (z, e, first, place) y f y_in in_set f_in some =
       subst (λ p. is_no_later p (place_at mesh lengths trees y f) ≡ true) place (first.least y f y_in in_set f_in some)
 
   -- where it is the place of a loop that isn't null, this is the first
-  first_some : (set : ℕ → Bool) (c : Candidate) (z e : ℕ) → z < mesh.vertices → e < edge_count mesh → (is_null z e → ⊥) →
+  pub first_some : (set : ℕ → Bool) (c : Candidate) (z e : ℕ) → z < mesh.vertices → e < edge_count mesh → (is_null z e → ⊥) →
       place_at mesh lengths trees z e ≡ place_of c → Least set (Some c) → IsFirstOf mesh lengths trees set (Some c)
   first_some set c z e z_in e_in some place least = (
     z,
@@ -146,11 +146,23 @@ module _ (mesh : Mesh) (lengths : List ℕ) (trees : ℕ → Tree) (surface : Is
   least_found o z found z_in h e e_in some =
       least_more no_member z o found z_in (λ y f y_in in_set f_in nonnull. absurd (false≢true in_set)) h z e z_in (eq-eqb z z refl) e_in some
 
+  -- it stays the first where no loop at further vertices comes before it
+  pub first_stays : (set more : ℕ → Bool) (o : Option Candidate) → IsFirstOf mesh lengths trees set o → Least more o →
+      IsFirstOf mesh lengths trees more o
+  first_stays set more None first least = λ y f y_in in_more f_in.
+      elim (cases_eq (class_of mesh d (loop_walk mesh (trees y) f)) 0) [
+        | inl zero_is ↦ zero_null mesh lengths trees surface positive shortest d split y f y_in f_in zero_is
+        | inr some ↦ absurd (least y f y_in in_more f_in (λ null. some ((null_by_class mesh d surface split
+            (loop_walk mesh (trees y) f) (loop_closed mesh lengths trees surface shortest y f y_in f_in)).0 null)))
+      ]
+  first_stays set more (Some c) (y, f, was, place) least = first_some more c y f was.from_in was.edge_in was.nonnull place least
+
   pub first_more : (set : ℕ → Bool) (z : ℕ) (o : Option Candidate) (found : List Signed) → z < mesh.vertices →
       IsFirstOf mesh lengths trees set o → AreFoundBy mesh lengths trees d o z found →
       IsFirstOf mesh lengths trees (with_vertex z set) (fold earlier_of o found)
   first_more set z o found z_in first h = elim (first_member o found) [
-    | inl same ↦ old o refl first same
+    | inl same ↦ subst (IsFirstOf mesh lengths trees (with_vertex z set)) (sym same)
+        (first_stays set (with_vertex z set) o first (subst (Least (with_vertex z set)) same least))
     | inr new ↦
         let (s, has, is) = new in
         let r : IsFound mesh lengths trees d s = All-contains (IsFound mesh lengths trees d) found s h.each has in
@@ -165,21 +177,6 @@ module _ (mesh : Mesh) (lengths : List ℕ) (trees : ℕ → Tree) (surface : Is
     where
       least : Least (with_vertex z set) (fold earlier_of o found)
       least = least_more set z o found z_in (least_of set o first) h
-
-      old : (o' : Option Candidate) → o ≡ o' → IsFirstOf mesh lengths trees set o' → fold earlier_of o found ≡ o →
-          IsFirstOf mesh lengths trees (with_vertex z set) (fold earlier_of o found)
-      old None e was same = subst (IsFirstOf mesh lengths trees (with_vertex z set)) (sym (same ∙ e))
-          (λ y f y_in in_set f_in. none y f y_in in_set f_in)
-        where
-          none : (y f : ℕ) → y < mesh.vertices → IsTrue (with_vertex z set y) → f < edge_count mesh → is_null y f
-          none y f y_in in_set f_in = elim (cases_eq (class_of mesh d (loop_walk mesh (trees y) f)) 0) [
-            | inl zero_is ↦ zero_null mesh lengths trees surface positive shortest d split y f y_in f_in zero_is
-            | inr some ↦ absurd (subst (λ x. IsNoLater x (place_at mesh lengths trees y f)) (same ∙ e)
-                (least y f y_in in_set f_in (λ null. some ((null_by_class mesh d surface split (loop_walk mesh (trees y) f)
-                (loop_closed mesh lengths trees surface shortest y f y_in f_in)).0 null))))
-          ]
-      old (Some c) e (y, f, was, place) same = subst (IsFirstOf mesh lengths trees (with_vertex z set)) (sym (same ∙ e))
-          (first_some (with_vertex z set) c y f was.from_in was.edge_in was.nonnull place (subst (Least (with_vertex z set)) (same ∙ e) least))
 
   -- for fewer vertices
   pub first_fewer : (set part : ℕ → Bool) (o : Option Candidate) → ((v : ℕ) → IsTrue (part v) → IsTrue (set v)) →
@@ -207,5 +204,5 @@ module _ (mesh : Mesh) (lengths : List ℕ) (trees : ℕ → Tree) (surface : Is
       (first_more (is_among (take i vs)) z o found z_in first h))
 
 -- of no vertices there is none
-pub first_begun : (mesh : Mesh) (lengths : List ℕ) (s : CotreeTables) (vs : List ℕ) → IsFirstAmong mesh lengths s (take 0 vs) None
+pub first_begun : (mesh : Mesh) (lengths : List ℕ) (s : SignTables) (vs : List ℕ) → IsFirstAmong mesh lengths s (take 0 vs) None
 first_begun mesh lengths s vs trees chosen d split are z e z_in in_set e_in = cc

@@ -1,12 +1,13 @@
 -- The kinds of edges, edge by edge.
-use Rattle.surf_search.proofs.Common.{◌≡◌, ℕ, ◌<◌, ◌≤◌, ◌+◌, ◌++◌, ◌∷◌, [], List, length, slice_index, sym, ap, ◌∙◌, arith, inl, inr, cases_eq, eq-eqb, ◌==◌, CotreeTables}
+use Rattle.surf_search.proofs.Common.{◌≡◌, ℕ, ◌<◌, ◌≤◌, ◌+◌, ◌++◌, ◌∷◌, [], List, length, slice_index, sym, ap, ◌∙◌, arith, inl, inr, cases_eq, eq-eqb, ◌==◌, subst, map, length-map, get_or-map, CotreeTables, SignTables, signs_of}
 use Rattle.std.proofs.Math.Seq.{get_or-append_seam}
 use Rattle.surf_surfaces.proofs.Common.{ne_eqb}
 use Rattle.std.proofs.lemmas.List.{get_or_append_left, length-append}
-use Rattle.surf_search.specs.Kinds.{AreKinds, KindTables}
+use Rattle.std.proofs.lemmas.Grind.{same_number_lists}
+use Rattle.surf_search.specs.Kinds.{AreKinds, KindTables, signs_by}
 
 -- those of the first so many edges
-pub record AreKindsTo (s : CotreeTables) (count : ℕ) (kinds signatures : List ℕ) : Type 0 where
+pub record AreKindsTo (s : SignTables) (count : ℕ) (kinds signatures : List ℕ) : Type 0 where
   pub count_is : length kinds ≡ count
   pub kind_in : (e : ℕ) → e < count → slice_index kinds e < length signatures
   pub same : (e : ℕ) → e < count → slice_index signatures (slice_index kinds e) ≡ slice_index s.signatures e
@@ -16,7 +17,7 @@ pub record AreKindsTo (s : CotreeTables) (count : ℕ) (kinds signatures : List 
   pub few : length signatures ≤ count + 1
 
 -- one more
-pub kinds_more : (s : CotreeTables) (e k : ℕ) (kinds next signatures more : List ℕ) → AreKindsTo s e kinds signatures →
+pub kinds_more : (s : SignTables) (e k : ℕ) (kinds next signatures more : List ℕ) → AreKindsTo s e kinds signatures →
     next ≡ kinds ++ k ∷ [] → k < length more → slice_index more k ≡ slice_index s.signatures e →
     (slice_index s.signatures e ≡ 0 → k ≡ 0) → length signatures ≤ length more → length more ≤ length signatures + 1 →
     ((j : ℕ) → j < length signatures → slice_index more j ≡ slice_index signatures j) → AreKindsTo s (e + 1) next more
@@ -47,7 +48,7 @@ kinds_more s e k kinds next signatures more are push k_in is plain grown one sta
       few = let few = are.few in omega (arith, few, one);
     }
 
-pub kinds_all : (s : CotreeTables) (count : ℕ) (kinds signatures : List ℕ) → AreKindsTo s count kinds signatures →
+pub kinds_all : (s : SignTables) (count : ℕ) (kinds signatures : List ℕ) → AreKindsTo s count kinds signatures →
     count ≡ length s.signatures → AreKinds s (record { kinds = kinds; signatures = signatures })
 kinds_all s count kinds signatures are is = record {
   count = are.count_is ∙ is;
@@ -57,8 +58,29 @@ kinds_all s count kinds signatures are is = record {
   plain = λ e l. are.plain e (omega (arith, is, l));
 }
 
+-- kinds tell all signatures
+pub kinds_sign : (s : SignTables) (t : KindTables) → AreKinds s t → map (slice_index t.signatures) t.kinds ≡ s.signatures
+kinds_sign s t are =
+    let long : length (map (slice_index t.signatures) t.kinds) ≡ length s.signatures =
+    length-map t.kinds (slice_index t.signatures) ∙ are.count in
+    same_number_lists (map (slice_index t.signatures) t.kinds) s.signatures long
+    (λ e l. let e_in : e < length s.signatures = omega (arith, l, long) in
+    get_or-map (slice_index t.signatures) t.kinds e 0 0 (let n = are.count in omega (arith, n, e_in)) ∙ are.same e e_in)
+
+-- so the signatures by kinds are those that the kinds are of
+pub signs_by_kinds : (t : CotreeTables) (k : KindTables) (left : List ℕ) → left ≡ t.left → AreKinds (signs_of t) k →
+    signs_by left k ≡ signs_of t
+signs_by_kinds t k left is are =
+    ap (λ (xs : List ℕ). record { left = xs; signatures = map (slice_index k.signatures) k.kinds }) is
+    ∙ ap (λ (xs : List ℕ). record { left = t.left; signatures = xs }) (kinds_sign (signs_of t) k are)
+
+-- and kinds of those are kinds of these
+pub kinds_by : (t : CotreeTables) (k : KindTables) (left : List ℕ) → left ≡ t.left → AreKinds (signs_of t) k →
+    AreKinds (signs_by left k) k
+kinds_by t k left is are = subst (λ (s : SignTables). AreKinds s k) (sym (signs_by_kinds t k left is are)) are
+
 -- an edge without a signature is known by its kind
-pub plain_kind : (s : CotreeTables) (t : KindTables) (e : ℕ) → AreKinds s t → e < length s.signatures →
+pub plain_kind : (s : SignTables) (t : KindTables) (e : ℕ) → AreKinds s t → e < length s.signatures →
     (slice_index t.kinds e == 0) ≡ (slice_index s.signatures e == 0)
 plain_kind s t e are e_in = elim (cases_eq (slice_index t.kinds e) 0) [
   | inl plain ↦

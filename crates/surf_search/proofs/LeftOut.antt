@@ -1,5 +1,5 @@
 -- Loops that may be left out: each has the class of one that is no later, so that the same are kept.
-use Rattle.surf_search.proofs.Common.{◌≡◌, ℕ, zero, suc, ◌<◌, ◌≤◌, ◌+◌, ◌*◌, ◌^◌, ◌⊎◌, Bool, true, false, leb, leb-true, le-leb, cond, List, [], ◌∷◌, ◌++◌, length, get_or, All, Contains, IsPermutation, refl, sym, ap, ◌∙◌, subst, arith, inl, inr, IsTrue, AllByRecursion, cases_Bool, cases_lt, nat_tests, recursion_from_All, All-from_recursion, All-contains, All-append, All-permutation, Contains-permutation, Contains-append_cases, Contains-append_left, Contains-append_right, Contains-get_or, IsNonDecreasingBy, Sorted, sorted_from_order, order_from_sorted, all_each, merge, greedy_after, numbers, is_nothing, spans, Decides-is_nothing, InSpan, Candidate, Signed, signed_earlier, independent_of, order_of, IsShort, earlier, HasNoLater, precedes, ◌-◌, take, filter, Option, All-take, choice_exists, shortest_trees, Mesh, IsSurface, ArePositive, edge_count, Chosen, CotreeTables, SurfaceTables, AreFirstFound, AreLongerOr, IsSumOfLength, AreSigned, IsKeptAt, IsWider, place_of, is_sought, is_no_later, sorted_by_number}
+use Rattle.surf_search.proofs.Common.{◌≡◌, ℕ, zero, suc, ◌<◌, ◌≤◌, ◌+◌, ◌*◌, ◌^◌, ◌⊎◌, Bool, true, false, leb, leb-true, le-leb, cond, List, [], ◌∷◌, ◌++◌, length, get_or, All, Contains, IsPermutation, refl, sym, ap, ◌∙◌, subst, arith, inl, inr, IsTrue, AllByRecursion, cases_Bool, cases_lt, nat_tests, recursion_from_All, All-from_recursion, All-contains, All-append, All-permutation, Contains-permutation, Contains-append_cases, Contains-append_left, Contains-append_right, Contains-get_or, IsNonDecreasingBy, Sorted, sorted_from_order, order_from_sorted, all_each, merge, greedy_after, numbers, is_nothing, spans, Decides-is_nothing, InSpan, Candidate, Signed, signed_earlier, independent_of, order_of, IsShort, earlier, HasNoLater, precedes, ◌-◌, take, filter, Option, All-take, choice_exists, shortest_trees, Mesh, IsSurface, ArePositive, edge_count, Chosen, SignTables, SurfaceTables, AreFirstFound, AreLongerOr, IsSumOfLength, AreSigned, IsKeptAt, IsWider, place_of, is_sought, is_no_later, sorted_by_number}
 use Rattle.surf_search.specs.declared.told_loops.Ties.{Ties}
 use Rattle.surf_search.specs.declared.told_loops.Ties.TheVariants.{LesserBase}
 use Rattle.surf_choice.specs.Candidates.{has_next}
@@ -238,7 +238,7 @@ filtered_has p (x ∷ xs) c (suc k, l, at) on =
     elim (cases_Bool (p x)) [ inl more ↦ rw more (Contains-append_right (x ∷ []) (filter p xs) c rest) | inr off ↦ rw off rest ]
 
 -- what a search found, in another order
-pub first_permuted : (ties : Ties) (mesh : Mesh) (lengths : List ℕ) (s : CotreeTables) (limit : Option Candidate) (z : ℕ) (found list : List Signed) →
+pub first_permuted : (ties : Ties) (mesh : Mesh) (lengths : List ℕ) (s : SignTables) (limit : Option Candidate) (z : ℕ) (found list : List Signed) →
     IsPermutation found list → AreFirstFound ties mesh lengths s limit z found → AreFirstFound ties mesh lengths s limit z list
 first_permuted ties mesh lengths s limit z found list same h = record {
   left = h.left;
@@ -248,7 +248,7 @@ first_permuted ties mesh lengths s limit z found list same h = record {
       record { loop = n.loop; listed = Contains-permutation found list n.loop same n.listed; class = n.class; no_later = n.no_later });
 }
 
-pub first_small : (ties : Ties) (mesh : Mesh) (lengths : List ℕ) → IsSurface mesh → ArePositive mesh lengths → (s : CotreeTables) (width : ℕ) →
+pub first_small : (ties : Ties) (mesh : Mesh) (lengths : List ℕ) → IsSurface mesh → ArePositive mesh lengths → (s : SignTables) (width : ℕ) →
     AreSigned mesh s width → (limit : Option Candidate) (z : ℕ) (found : List Signed) → AreFirstFound ties mesh lengths s limit z found →
     All (λ c. c.signature < 2 ^ width) found
 first_small ties mesh lengths surface positive s width signed limit z found h =

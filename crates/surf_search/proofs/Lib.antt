@@ -1,6 +1,7 @@
 pub mod Common
 pub mod Asked
 pub mod Barred
+pub mod BarredFirst
 pub mod Capped
 pub mod Capping
 pub mod Climbed

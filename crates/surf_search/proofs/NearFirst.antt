@@ -1,18 +1,18 @@
 -- The first of the loops at the vertices of a set stays the first with vertices near one where all loops are longer.
-use Rattle.surf_search.proofs.Common.{◌≡◌, ◌≢◌, ℕ, ◌<◌, ◌≤◌, ◌+◌, ◌*◌, Bool, true, false, List, [], ◌∷◌, Option, Some, sym, ◌∙◌, subst, arith, inl, inr, cases_Bool, cases_eq, false≢true, nat_tests, xor-false, Split, IsSplit, Tree, Mesh, edge_count, IsSurface, ArePositive, parity, IsNull, cells_of, class_of, AreShortestTrees, loop_walk, loop_length, DependsOn, Place, is_no_later, comes_sooner, place_at, AreEnoughOf, choice_exists, null_by_class, shortest_trees, loop_closed, AgreeOff, with_near, near_vertices_need_no_more, Candidate, place_of, is_sought, CotreeTables, SurfaceTables, IsFirstOf, IsFirstAt, is_marked, AreMarkedNear, IsAhead, IsFirstIn, StaysFirst}
+use Rattle.surf_search.proofs.Common.{◌≡◌, ◌≢◌, ℕ, ◌<◌, ◌≤◌, ◌+◌, ◌*◌, Bool, true, false, List, [], ◌∷◌, Option, Some, sym, ◌∙◌, subst, arith, inl, inr, cases_Bool, cases_eq, false≢true, nat_tests, xor-false, Split, IsSplit, Tree, Mesh, edge_count, IsSurface, ArePositive, parity, IsNull, cells_of, class_of, AreShortestTrees, loop_walk, loop_length, DependsOn, Place, is_no_later, comes_sooner, place_at, AreEnoughOf, choice_exists, null_by_class, shortest_trees, loop_closed, AgreeOff, with_near, near_vertices_need_no_more, Candidate, place_of, is_sought, SignTables, SurfaceTables, IsFirstOf, IsFirstAt, is_marked, AreMarkedNear, IsAhead, IsFirstIn, StaysFirst}
 use Rattle.surf_search.proofs.PassedOver.{sought_before, no_longer, all_near}
 use Rattle.surf_search.proofs.FirstFound.{IsNoLater, least_found, first_fewer}
 use Rattle.surf_search.proofs.Searched.{depends_null, zero_null}
 
 -- what depends on no walks is null
-nothing_null : (mesh : Mesh) (walk : List ℕ) → DependsOn mesh [] walk → IsNull mesh walk
+pub nothing_null : (mesh : Mesh) (walk : List ℕ) → DependsOn mesh [] walk → IsNull mesh walk
 nothing_null mesh walk ([], (faces, is)) = (faces, λ e l. sym (xor-false (parity mesh walk e)) ∙ is e l)
 nothing_null mesh walk (b ∷ bs, (faces, is)) = (faces, λ e l. sym (xor-false (parity mesh walk e)) ∙ is e l)
 
 not_sooner : (a p : Place) → comes_sooner a p ≡ false → is_no_later a p ≡ true
 not_sooner a p h = grind (arith, nat_tests)
 
-sooner_not : (a p : Place) → comes_sooner a p ≡ true → is_no_later a p ≡ false
+pub sooner_not : (a p : Place) → comes_sooner a p ≡ true → is_no_later a p ≡ false
 sooner_not a p h = grind (arith, nat_tests)
 
 module _ (mesh : Mesh) (lengths other : List ℕ) (trees others : ℕ → Tree) (surface : IsSurface mesh)
@@ -96,7 +96,7 @@ pub ahead_first_in : (f scout : SurfaceTables) (before after : List Bool) (first
     ArePositive f.mesh f.lengths → StaysFirst scout before after first →
     IsFirstIn f.mesh f.lengths f.signs (is_marked before) first → IsFirstIn f.mesh f.lengths f.signs (is_marked after) first
 ahead_first_in f scout before after first h positive stay was =
-    let at : (m : Mesh) (s : CotreeTables) → m ≡ f.mesh → s ≡ f.signs → ((lengths : List ℕ) → ArePositive m lengths →
+    let at : (m : Mesh) (s : SignTables) → m ≡ f.mesh → s ≡ f.signs → ((lengths : List ℕ) → ArePositive m lengths →
     AgreeOff m lengths scout.lengths (is_marked before) → IsFirstIn m lengths s (is_marked before) first →
     IsFirstIn m lengths s (is_marked after) first) →
     IsFirstIn f.mesh f.lengths f.signs (is_marked after) first =

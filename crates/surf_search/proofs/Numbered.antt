@@ -1,10 +1,10 @@
 -- The classes of the ways from the base of a search, vertex by vertex.
-use Rattle.surf_search.proofs.Common.{◌≡◌, ◌≢◌, ℕ, ◌<◌, ◌≤◌, ◌+◌, true, false, List, length, slice_index, bit_xor, get_or, sym, ap, ◌∙◌, subst, arith, inl, inr, eq-eqb, ◌==◌, cases_eq, cases_lt, leb-true, le-leb, nat_tests, get_or_read, Tree, Mesh, edge_count, IsSurface, ArePositive, edge_number, IsShortestTree, edge_signature, choice_exists, shortest_is_tree, way_class, way_none, way_more, CotreeTables, NearTables, IsNear, IsNearTo, is_near, WayTables, class_at, IsWayAt, AreWays, IsNumbered, HasParent}
+use Rattle.surf_search.proofs.Common.{◌≡◌, ◌≢◌, ℕ, ◌<◌, ◌≤◌, ◌+◌, true, false, List, length, slice_index, bit_xor, get_or, sym, ap, ◌∙◌, subst, arith, inl, inr, eq-eqb, ◌==◌, cases_eq, cases_lt, leb-true, le-leb, nat_tests, get_or_read, Tree, Mesh, edge_count, IsSurface, ArePositive, edge_number, IsShortestTree, edge_signature, choice_exists, shortest_is_tree, way_class, way_none, way_more, SignTables, NearTables, IsNear, IsNearTo, is_near, WayTables, class_at, IsWayAt, AreWays, IsNumbered, HasParent}
 use Rattle.std.specs.Int.Bits.{xor_comm}
 use Rattle.surf_search.proofs.Climbed.{at_edge}
 
 -- the first of those that were settled have it
-abbrev pub AreWaysTo : Mesh → List ℕ → ℕ → CotreeTables → NearTables → WayTables → ℕ → Type 0
+abbrev pub AreWaysTo : Mesh → List ℕ → ℕ → SignTables → NearTables → WayTables → ℕ → Type 0
 AreWaysTo mesh lengths base s t w count =
     (j : ℕ) → j < count → IsWayAt mesh lengths base s w (slice_index t.settled j)
 
@@ -29,7 +29,7 @@ near_parent mesh lengths base far tree t short n v v_in within ne =
     )
 
 module _ (mesh : Mesh) (lengths : List ℕ) (surface : IsSurface mesh) (positive : ArePositive mesh lengths) (base far : ℕ)
-    (base_in : base < mesh.vertices) (s : CotreeTables) (t : NearTables) (near : IsNear mesh lengths base far t) where
+    (base_in : base < mesh.vertices) (s : SignTables) (t : NearTables) (near : IsNear mesh lengths base far t) where
   -- what is known of one tree
   one_tree : (tree : Tree) × IsShortestTree mesh lengths base tree
   one_tree = let (trees, chosen) = choice_exists mesh lengths surface positive in ((trees base).tree, (chosen base base_in).shortest)

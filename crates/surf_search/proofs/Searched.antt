@@ -1,5 +1,5 @@
 -- What is kept of the loops at the vertices of a list, vertex by vertex.
-use Rattle.surf_search.proofs.Common.{◌≡◌, ◌≢◌, ℕ, zero, suc, ◌<◌, ◌≤◌, ◌+◌, ◌^◌, ◌⊎◌, true, false, false≢true, eqb, List, [], ◌∷◌, ◌++◌, length, get_or, map, take, All, Contains, IsPermutation, Option, refl, sym, ap, ◌∙◌, subst, arith, inl, inr, eqb-true, IsTrue, ◌==◌, AllByRecursion, or_cases, or_left, or_right, nat_tests, take_more, length-map, greedy, numbers, is_nothing, chosen, Independent, Decides-is_nothing, xor-false, Split, IsSplit, Tree, Mesh, edge_count, IsSurface, ArePositive, parity, IsNull, cells_of, class_of, AreShortestTrees, loop_walk, DependsOn, Contains-permutation, All-permutation, Sorted, AllInSpan, InSpan, count, free_from_independent, Found, IsFoundAt, IsFoundLoop, AreFoundAt, IsFoundChoice, comes_no_later, with_vertex, recursion_from_All, All-from_recursion, All-contains, Contains-get_or, contains-map, choice_exists, null_by_class, least_base_on_way, loop_closed, greedy_is_found_choice, found_closed, all_each, all_mapped, CotreeTables, Candidate, Signed, independent_of, place_of, is_sought, stands_before, IsShort, all_kept, greedy_mapped, AreSigned, IsFound, AreFoundBy, AreFound, found_of, is_among}
+use Rattle.surf_search.proofs.Common.{◌≡◌, ◌≢◌, ℕ, zero, suc, ◌<◌, ◌≤◌, ◌+◌, ◌^◌, ◌⊎◌, true, false, false≢true, eqb, List, [], ◌∷◌, ◌++◌, length, get_or, map, take, All, Contains, IsPermutation, Option, refl, sym, ap, ◌∙◌, subst, arith, inl, inr, eqb-true, IsTrue, ◌==◌, AllByRecursion, or_cases, or_left, or_right, nat_tests, take_more, length-map, greedy, numbers, is_nothing, chosen, Independent, Decides-is_nothing, xor-false, Split, IsSplit, Tree, Mesh, edge_count, IsSurface, ArePositive, parity, IsNull, cells_of, class_of, AreShortestTrees, loop_walk, DependsOn, Contains-permutation, All-permutation, Sorted, AllInSpan, InSpan, count, free_from_independent, Found, IsFoundAt, IsFoundLoop, AreFoundAt, IsFoundChoice, comes_no_later, with_vertex, recursion_from_All, All-from_recursion, All-contains, Contains-get_or, contains-map, choice_exists, null_by_class, least_base_on_way, loop_closed, greedy_is_found_choice, found_closed, all_each, all_mapped, SignTables, Candidate, Signed, independent_of, place_of, is_sought, stands_before, IsShort, all_kept, greedy_mapped, AreSigned, IsFound, AreFoundBy, AreFound, found_of, is_among}
 use Rattle.surf_surfaces.proofs.Common.{all_kept as greedy_spans}
 use Rattle.surf_search.proofs.Signed.{class_small}
 
@@ -164,7 +164,7 @@ module _ (mesh : Mesh) (lengths : List ℕ) (trees : ℕ → Tree) (surface : Is
       record { base = omega (arith, r.base, base_in, few_v); edge = omega (arith, r.edge_in, few_e) })
 
 -- their signatures are as small as there are left edges
-pub found_small : (mesh : Mesh) (lengths : List ℕ) → IsSurface mesh → ArePositive mesh lengths → (s : CotreeTables) (width : ℕ) →
+pub found_small : (mesh : Mesh) (lengths : List ℕ) → IsSurface mesh → ArePositive mesh lengths → (s : SignTables) (width : ℕ) →
     AreSigned mesh s width → (limit : Option Candidate) (z : ℕ) (found : List Signed) → AreFound mesh lengths s limit z found →
     All (λ c. c.signature < 2 ^ width) found
 found_small mesh lengths surface positive s width signed limit z found h =

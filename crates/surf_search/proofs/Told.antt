@@ -1,5 +1,5 @@
 -- What the tables of a search tell of the loops at its base.
-use Rattle.surf_search.proofs.Common.{◌≡◌, ◌≢◌, ℕ, zero, suc, ◌<◌, ◌≤◌, ◌+◌, ◌*◌, ◌/◌, ◌^◌, ◌++◌, ◌∷◌, [], true, not, eqb, eqb-true, cond, ◌-◌, List, length, get_or, map, slice_index, bit_xor, min, All, Contains, Option, Some, None, refl, sym, ap, ◌∙◌, subst, arith, inl, inr, IsTrue, ◌==◌, cases_Bool, cases_eq, cases_lt, and_parts, and_from, leb-true, le-leb, nat_tests, get_or_default, get_or_read, length-map, get_or-map, Split, Tree, Mesh, edge_count, ends, IsSurface, ArePositive, edge_length, edge_number, AreShortestTrees, loop_length, Trees, AreChosen, edge_signature, All-push, Contains-append_left, Contains-append_right, place_at, comes_sooner, least_base, least_on_way, shortest_trees, ends_are_near, zero_distance, least_tables_are_least, shortest_is_tree, shortest_is_shortest, way_class, loop_class, lengths_positive, ends_in, CotreeTables, Link, AreLinks, NearTables, IsNear, IsNearTo, is_near, Candidate, Signed, place_of, is_sought, AreDistances, radius_of, AreSignatures, WayTables, class_at, AreWays, Search, IsReady, is_between, told_loop, is_wanted, is_among, IsTold, ListsAt, IsFound, AreFoundBy, HasNoLater, precedes, CoversAt, AreFirstTold, ◌&&◌, ◌⊎◌, Bool, AllByRecursion, get_or-set_same, get_or-set_other, set, length-set, All-append, All-contains, All-from_recursion, Contains-get_or}
+use Rattle.surf_search.proofs.Common.{◌≡◌, ◌≢◌, ℕ, zero, suc, ◌<◌, ◌≤◌, ◌+◌, ◌*◌, ◌/◌, ◌^◌, ◌++◌, ◌∷◌, [], true, not, eqb, eqb-true, cond, ◌-◌, List, length, get_or, map, slice_index, bit_xor, min, All, Contains, Option, Some, None, refl, sym, ap, ◌∙◌, subst, arith, inl, inr, IsTrue, ◌==◌, cases_Bool, cases_eq, cases_lt, and_parts, and_from, leb-true, le-leb, nat_tests, get_or_default, get_or_read, length-map, get_or-map, Split, Tree, Mesh, edge_count, ends, IsSurface, ArePositive, edge_length, edge_number, AreShortestTrees, loop_length, Trees, AreChosen, edge_signature, All-push, Contains-append_left, Contains-append_right, place_at, comes_sooner, least_base, least_on_way, shortest_trees, ends_are_near, zero_distance, least_tables_are_least, shortest_is_tree, shortest_is_shortest, way_class, loop_class, lengths_positive, ends_in, SignTables, Link, AreLinks, NearTables, IsNear, IsNearTo, is_near, Candidate, Signed, place_of, is_sought, AreDistances, radius_of, AreSignatures, WayTables, class_at, AreWays, Search, IsReady, is_between, told_loop, is_wanted, is_among, IsTold, ListsAt, IsFound, AreFoundBy, HasNoLater, precedes, CoversAt, AreFirstTold, ◌&&◌, ◌⊎◌, Bool, AllByRecursion, get_or-set_same, get_or-set_other, set, length-set, All-append, All-contains, All-from_recursion, Contains-get_or}
 use Rattle.surf_search.specs.declared.told_loops.Ties.{Ties}
 use Rattle.surf_search.specs.declared.told_loops.Ties.TheVariants.{LesserBase, LesserEdge}
 use Rattle.std.proofs.lemmas.List.Elements.{All-set}
@@ -278,7 +278,7 @@ links_positive mesh m lengths rows same h =
 -- ---- they are the loops by each tree
 
 module _ (mesh : Mesh) (lengths : List ℕ) (surface : IsSurface mesh) (positive : ArePositive mesh lengths) (lens : AreLengths lengths) (z : ℕ)
-    (z_in : z < mesh.vertices) (s : CotreeTables) (t : NearTables) (w : WayTables) (limit : Option Candidate)
+    (z_in : z < mesh.vertices) (s : SignTables) (t : NearTables) (w : WayTables) (limit : Option Candidate)
     (near : IsNear mesh lengths z (radius_of limit) t) (ways : AreWays mesh lengths z s t w) where
   abbrev told : Search
   told = record { mesh = mesh; lengths = lengths; signs = s; near = t; ways = w; base = z }

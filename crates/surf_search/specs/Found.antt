@@ -13,7 +13,6 @@ use Rattle.surf_surfaces.specs.Class.{class_of}
 use Rattle.surf_surfaces.specs.Loop.{loop_walk, loop_length}
 use Rattle.surf_surfaces.specs.Choice.{Trees, AreChosen}
 use Rattle.surf_surfaces.specs.FewBases.{place_at, least_base, IsFirstFound}
-use Rattle.surf_cotree.specs.Tables.{CotreeTables}
 use Rattle.surf_near.specs.Near.{NearTables, AreNearTables, is_near}
 use Rattle.surf_choice.specs.declared.candidate.Candidate.{Candidate}
 use Rattle.surf_choice.specs.declared.candidate.Signed.{Signed}
@@ -24,7 +23,7 @@ use Rattle.surf_search.specs.declared.rises.Rise.{Rise}
 use Rattle.surf_search.specs.declared.surface.SignedSurface.{SignedSurface}
 use Rattle.surf_search.specs.declared.told_loops.Ties.{Ties}
 use Rattle.surf_search.specs.declared.told_loops.Ties.TheVariants.{LesserBase, LesserEdge}
-use Rattle.surf_search.specs.Signing.{AreSignatures}
+use Rattle.surf_search.specs.Signing.{SignTables, AreSignatures}
 use Rattle.surf_search.specs.Keys.{IsKey, IsNoted, key_class}
 use Rattle.surf_search.specs.Kinds.{AreKinds}
 use Rattle.surf_search.specs.Rises.{AreStarts}
@@ -38,7 +37,7 @@ use Rattle.surf_search.specs.declared.keys.Noted.{Noted}
 pub record Search : Type 0 where
   pub mesh : Mesh
   pub lengths : List ℕ
-  pub signs : CotreeTables
+  pub signs : SignTables
   pub near : NearTables
   pub ways : WayTables
   pub base : ℕ
@@ -47,13 +46,13 @@ pub record Search : Type 0 where
 pub record SurfaceTables : Type 0 where
   pub mesh : Mesh
   pub lengths : List ℕ
-  pub signs : CotreeTables
+  pub signs : SignTables
   pub given : List ℕ
 
 abbrev pub surface_of : SignedSurface → SurfaceTables
 surface_of s = record { mesh = s.mesh.now; lengths = s.lengths.now; signs = s.signatures.now; given = s.lengths.now }
 
-abbrev pub search_of : Mesh → List ℕ → CotreeTables → NearTables → WayTables → ℕ → Search
+abbrev pub search_of : Mesh → List ℕ → SignTables → NearTables → WayTables → ℕ → Search
 search_of mesh lengths s t w base =
     record { mesh = mesh; lengths = lengths; signs = s; near = t; ways = w; base = base }
 
@@ -185,13 +184,13 @@ pub record AreFoundBy (mesh : Mesh) (lengths : List ℕ) (trees : ℕ → Tree) 
       (c : Signed) × Contains found c × (c.from ≡ z) × (c.candidate.edge ≡ e)
 
 -- so they are by all trees that show the choice
-abbrev pub AreFound : Mesh → List ℕ → CotreeTables → Option Candidate → ℕ → List Signed → Type 0
+abbrev pub AreFound : Mesh → List ℕ → SignTables → Option Candidate → ℕ → List Signed → Type 0
 AreFound mesh lengths s limit z found = (trees : ℕ → Trees) → AreChosen mesh lengths trees → (d : Split) →
     AreSignatures mesh d s → AreFoundBy mesh lengths (λ x. (trees x).tree) d limit z found
 
 -- candidates are loops at a vertex that aren't null and come before a limit: each that isn't listed has a listed one of
 -- its class that is no later
-pub record AreFirstFound (ties : Ties) (mesh : Mesh) (lengths : List ℕ) (s : CotreeTables) (limit : Option Candidate) (z : ℕ)
+pub record AreFirstFound (ties : Ties) (mesh : Mesh) (lengths : List ℕ) (s : SignTables) (limit : Option Candidate) (z : ℕ)
     (found : List Signed) : Type 0 where
   pub left : List Signed
   pub are : AreFound mesh lengths s limit z (left ++ found)
@@ -231,7 +230,7 @@ IsFirstOf mesh lengths trees set (Some c) = (z : ℕ) × (e : ℕ) × IsFirstFou
     × (place_at mesh lengths trees z e ≡ place_of c)
 
 -- so it is by all trees that show the choice
-abbrev pub IsFirstAmong : Mesh → List ℕ → CotreeTables → List ℕ → Option Candidate → Type 0
+abbrev pub IsFirstAmong : Mesh → List ℕ → SignTables → List ℕ → Option Candidate → Type 0
 IsFirstAmong mesh lengths s vertices first = (trees : ℕ → Trees) → AreChosen mesh lengths trees → (d : Split) →
     IsSplit (cells_of mesh) d → AreSignatures mesh d s →
     IsFirstOf mesh lengths (λ x. (trees x).tree) (is_among vertices) first

@@ -2,7 +2,7 @@
 use Rattle.std.specs.Prelude.{ℕ, ◌≡◌, ◌<◌, true, false, Bool, List, Contains, length, slice_index, slice_index_or, not, nat_lt, ◌==◌, if◌then◌else◌}
 use Rattle.std.specs.Int.{w32, reverse_bits}
 use Rattle.surf_z2.specs.Space.{Chain}
-use Rattle.surf_cotree.specs.Tables.{CotreeTables}
+use Rattle.surf_search.specs.Signing.{SignTables}
 
 -- the list has those of the first vertices that are marked, increasing, and no others
 pub record AreMarkedIn (marked : List Bool) (bound : ℕ) (list : List ℕ) : Type 0 where
@@ -12,7 +12,7 @@ pub record AreMarkedIn (marked : List Bool) (bound : ℕ) (list : List ℕ) : Ty
   pub all : (v : ℕ) → v < bound → slice_index_or marked v false ≡ true → Contains list v
 
 -- the set of the edges whose signatures aren't empty
-abbrev pub is_signed : CotreeTables → Chain
+abbrev pub is_signed : SignTables → Chain
 is_signed s e = not (slice_index s.signatures e == 0)
 
 -- the two vertices, that of the lesser degree first, and as they are where both have the same

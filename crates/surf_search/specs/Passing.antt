@@ -9,12 +9,11 @@ use Rattle.surf_surfaces.specs.Choice.{Trees, AreChosen}
 use Rattle.surf_surfaces.specs.Surface.{edge_count}
 use Rattle.surf_surfaces.specs.Walk.{ArePositive, edge_length}
 use Rattle.surf_surfaces.specs.ShortestTree.{IsShortestTree}
-use Rattle.surf_cotree.specs.Tables.{CotreeTables}
 use Rattle.surf_firsts.specs.Near.{AgreeOff}
 use Rattle.surf_near.specs.Links.{IsShutAt}
 use Rattle.surf_choice.specs.declared.candidate.Candidate.{Candidate}
 use Rattle.surf_search.specs.Found.{SurfaceTables, IsFirstOf}
-use Rattle.surf_search.specs.Signing.{AreSignatures}
+use Rattle.surf_search.specs.Signing.{SignTables, AreSignatures}
 
 -- whether a vertex is marked in a table
 abbrev pub is_marked : List Bool → ℕ → Bool
@@ -46,7 +45,7 @@ spare_of None wide = 0
 spare_of (Some c) None = 0
 
 -- the first of the loops at the vertices of a set, whichever trees show the choice
-abbrev pub IsFirstIn : Mesh → List ℕ → CotreeTables → (ℕ → Bool) → Option Candidate → Type 0
+abbrev pub IsFirstIn : Mesh → List ℕ → SignTables → (ℕ → Bool) → Option Candidate → Type 0
 IsFirstIn mesh lengths s set first = (trees : ℕ → Trees) → AreChosen mesh lengths trees → (d : Split) →
     IsSplit (cells_of mesh) d → AreSignatures mesh d s → IsFirstOf mesh lengths (λ x. (trees x).tree) set first
 

@@ -14,7 +14,6 @@ use Rattle.surf_surfaces.specs.Class.{class_of}
 use Rattle.surf_surfaces.specs.Choice.{Trees, AreChosen}
 use Rattle.surf_surfaces.specs.FewBases.{Place, Found}
 use Rattle.surf_caps.specs.Caps.{Sought, AreEnoughFor, either, limited}
-use Rattle.surf_cotree.specs.Tables.{CotreeTables}
 use Rattle.surf_choice.specs.declared.candidate.Signed.{Signed}
 use Rattle.surf_choice.specs.declared.candidate.Candidate.{Candidate}
 use Rattle.surf_choice.specs.Candidates.{Chosen, IsSumOfLength, independent_of, signed_earlier, signatures}
@@ -22,7 +21,7 @@ use Rattle.surf_choice.specs.Places.{is_sought, limit_of, order_of, stands_befor
 use Rattle.surf_search.specs.declared.caps.Ask.{Ask}
 use Rattle.surf_search.specs.Found.{SurfaceTables, AreFound}
 use Rattle.surf_search.specs.Passing.{AreNoShorter, IsAhead, is_marked}
-use Rattle.surf_search.specs.Signing.{AreSignatures}
+use Rattle.surf_search.specs.Signing.{SignTables, AreSignatures}
 
 -- ---- what is sought
 
@@ -139,7 +138,7 @@ abbrev pub HasCappedEnd : Mesh → List ℕ → ℕ → ℕ → Type 0
 HasCappedEnd mesh caps least e = (least ≤ cap_at caps (ends mesh e).0) ⊎ (least ≤ cap_at caps (ends mesh e).1)
 
 -- each edge has an end with a cap that is no less than what is asked, as far as it is no more than a number
-abbrev pub AreCapped : Mesh → CotreeTables → List Signed → ℕ → List ℕ → Type 0
+abbrev pub AreCapped : Mesh → SignTables → List Signed → ℕ → List ℕ → Type 0
 AreCapped mesh s kept most caps = (e : ℕ) → e < edge_count mesh →
     (ask : ℕ) × IsAsked kept ask (slice_index s.signatures e) × HasCappedEnd mesh caps (min ask most) e
 
@@ -154,7 +153,7 @@ AreRising caps reached below list = (v : ℕ) → v < below → (cap_at caps v �
 -- ---- asks of edges
 
 -- a list has an ask for each edge with a signature that isn't empty: what is asked, and no more than a number
-abbrev pub AreAsks : CotreeTables → List Signed → ℕ → ℕ → List Ask → Type 0
+abbrev pub AreAsks : SignTables → List Signed → ℕ → ℕ → List Ask → Type 0
 AreAsks s kept most below asks = (e : ℕ) → e < below → slice_index s.signatures e ≢ 0 →
     (a : Ask) × Contains asks a × (a.edge ≡ e) × ((ask : ℕ) × IsAsked kept ask (slice_index s.signatures e) × (a.length ≡ min ask most))
 

@@ -35,8 +35,8 @@ fn list_asks(
     let mut asks = Vec::new(alloc);
     for e in 0..surface.mesh.edges() {
         let edge = EdgeId::new(e);
-        let signature = surface.signatures.signature(edge);
-        if !signature.is_empty() {
+        if surface.signatures.is_signed(edge) {
+            let signature = surface.signatures.signature(edge);
             let length = choice.sum_length(&signature).min(most);
             asks.push(Ask { length, edge })?;
         }

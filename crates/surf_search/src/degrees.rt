@@ -4,8 +4,8 @@ ghost use Rattle.surf_surfaces.specs.Surface.{edge_count};
 ghost use Rattle.surf_surfaces.specs.Degrees.{AreDegreesTo, degree_in};
 ghost use Rattle.surf_search.specs.Marks.{by_degree, is_signed};
 
+use crate::edge_signs::EdgeSigns;
 use surf_base::{EdgeId, VertexId};
-use surf_cotree::CotreeDesk;
 use surf_mesh::HalfMesh;
 
 // Counts one more at a vertex.
@@ -18,7 +18,7 @@ fn count_at(degrees: &mut [u32], v: VertexId)
 }
 
 // Goes on to count, at each vertex, the edges whose signatures aren't empty by one edge.
-fn count_edge(mesh: &HalfMesh, signatures: &CotreeDesk, degrees: &mut [u32], edge: EdgeId)
+fn count_edge(mesh: &HalfMesh, signatures: &EdgeSigns, degrees: &mut [u32], edge: EdgeId)
     requires edge { edge < edge_count mesh.now }
     requires table { length signatures.now.signatures ≡ edge_count mesh.now }
     requires size { length degrees.old ≡ mesh.now.vertices }
@@ -26,7 +26,7 @@ fn count_edge(mesh: &HalfMesh, signatures: &CotreeDesk, degrees: &mut [u32], edg
     ensures { AreDegreesTo mesh.now (is_signed signatures.now) (edge + 1) degrees.new }
 {
     mesh.law_of_surface();
-    if !signatures.signature(edge).is_empty() {
+    if signatures.is_signed(edge) {
         let (low, high) = mesh.ends(edge);
         count_at(degrees, low);
         count_at(degrees, high);
@@ -34,7 +34,7 @@ fn count_edge(mesh: &HalfMesh, signatures: &CotreeDesk, degrees: &mut [u32], edg
 }
 
 // Counts at each vertex the edges there whose signatures aren't empty.
-pub fn count_signed(mesh: &HalfMesh, signatures: &CotreeDesk, degrees: &mut [u32])
+pub fn count_signed(mesh: &HalfMesh, signatures: &EdgeSigns, degrees: &mut [u32])
     requires table { length signatures.now.signatures ≡ edge_count mesh.now }
     requires size { length degrees.old ≡ mesh.now.vertices }
     requires none { (v : ℕ) → v < mesh.now.vertices → slice_index degrees.old v ≡ 0 }

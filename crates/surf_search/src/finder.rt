@@ -100,7 +100,6 @@ pub struct Finder<'a> {
     surface: SignedSurface<'a>,
     links: Links<'a>,
     tables: Tables,
-    kinds: Kinds,
     rises: Rises,
     keys: Keys,
 }
@@ -110,7 +109,6 @@ impl<'a> Model for Finder<'a> {
     ghost use Rattle.surf_surfaces.specs.Surface.{edge_count};
     ghost use Rattle.surf_near.specs.Near.{AreNearTables};
     ghost use Rattle.surf_search.specs.Found.{SurfaceTables};
-    ghost use Rattle.surf_search.specs.Kinds.{AreKinds};
     ghost use Rattle.surf_search.specs.Rises.{AreStarts};
     ghost use Rattle.surf_search.specs.Walks.{IsKnown};
 
@@ -128,7 +126,6 @@ impl<'a> Model for Finder<'a> {
         × IsKnown f.links.mesh f.links.lengths f.tables.desk f.tables.far
         × (length f.tables.ways.numbers ≡ f.surface.mesh.now.vertices)
         × (length f.surface.signatures.now.signatures ≡ edge_count f.surface.mesh.now)
-        × AreKinds f.surface.signatures.now f.kinds
         × AreStarts f.surface.mesh.now f.rises };
 }
 
@@ -164,13 +161,11 @@ impl<'a> Finder<'a> {
             far: None,
             ways: Ways::make(alloc, surface.mesh)?,
         };
-        let kinds = Kinds::make(alloc, &surface)?;
         let rises = Rises::make(alloc, surface.mesh)?;
         Ok(Finder {
             surface,
             links,
             tables,
-            kinds,
             rises,
             keys: Keys::make(alloc)?,
         })
@@ -193,12 +188,13 @@ impl<'a> Finder<'a> {
     {
         self.surface.mesh.law_of_surface();
         self.links.law_of_links();
+        let kinds = self.surface.signatures.kinds();
         self.tables
-            .reach(&self.surface, &self.links, &self.kinds, base, limit)?;
+            .reach(&self.surface, &self.links, kinds, base, limit)?;
         let reached = Reached {
             surface: &self.surface,
             links: &self.links,
-            kinds: &self.kinds,
+            kinds,
             rises: &self.rises,
             desk: &self.tables.desk,
             ways: &self.tables.ways,
@@ -356,12 +352,13 @@ impl<'a> Finder<'a> {
     {
         self.surface.mesh.law_of_surface();
         self.links.law_of_links();
+        let kinds = self.surface.signatures.kinds();
         self.tables
-            .reach(&self.surface, &self.links, &self.kinds, base, limit)?;
+            .reach(&self.surface, &self.links, kinds, base, limit)?;
         let reached = Reached {
             surface: &self.surface,
             links: &self.links,
-            kinds: &self.kinds,
+            kinds,
             rises: &self.rises,
             desk: &self.tables.desk,
             ways: &self.tables.ways,

@@ -1,15 +1,15 @@
-//! The first loop at the vertices of a list, where scouts tell which of them may be passed over.
+//! The first loop at the vertices of a list, where searches tell which of them may be passed over.
 ghost use Rattle.std.specs.Prelude.{◌≡◌, ◌<◌, ℕ, true, false, All, length, IfOk, OnOk, IsTrue};
 ghost use Rattle.surf_surfaces.specs.Walk.{ArePositive};
 ghost use Rattle.surf_surfaces.specs.Surface.{edge_count, IsSurface};
 ghost use Rattle.surf_firsts.specs.Near.{AgreeOff};
 ghost use Rattle.surf_search.specs.Signing.{AreSigned};
-ghost use Rattle.surf_search.specs.Passing.{is_marked, IsAhead, IsFirstIn, StaysFirst};
-ghost use Rattle.surf_search.specs.Found.{IsFirstAmong};
+ghost use Rattle.surf_search.specs.Passing.{is_marked, AreNoShorter, IsFirstIn, StaysFirst};
+ghost use Rattle.surf_search.specs.Rounds.{IsBarring};
+ghost use Rattle.surf_search.specs.Found.{surface_of, IsFirstAmong};
 
 use crate::finder::Finder;
 use crate::pace::{Pace, spare};
-use crate::scout::Scout;
 use crate::surface::SignedSurface;
 use std::alloc::Global;
 use surf_base::{NoMemory, VertexId};
@@ -51,6 +51,7 @@ fn scout_first(
     ensures first { StaysFirst finder.old marks.old marks.new first.now }
     ensures off { AgreeOff finder.old.mesh finder.old.lengths finder.new.lengths
         (is_marked marks.new) }
+    ensures no_shorter { AreNoShorter finder.old.mesh finder.old.lengths finder.new.lengths }
     ensures marked { IfOk result (λ told. told ≡ true → IsTrue (is_marked marks.new base)) }
     ensures stay { (v : ℕ) → IsTrue (is_marked marks.old v) → IsTrue (is_marked marks.new v) }
     ensures count { length marks.new ≡ length marks.old }
@@ -76,40 +77,40 @@ fn scout_first(
 }
 
 // The first of a candidate, which is the first loop at the marked vertices, and the loops at one
-// more. It is the candidate already where the vertex is marked. A scout may find it so. Then the
-// vertex is marked.
+// more. It is the candidate already where the vertex is marked, or where a search that goes farther
+// tells so. The ways through marked vertices are barred: a loop through one of them comes no sooner
+// than the candidate. Then the vertex is marked.
 fn visit_first(
+    surface: &SignedSurface<'_>,
     finder: &mut Finder<'_>,
-    scout: &mut Scout<'_>,
+    pace: &mut Pace,
     base: VertexId,
     first: &Option<Candidate>,
     marks: &mut [bool],
 ) -> Result<Option<Candidate>, NoMemory>
-    requires base { base < finder.old.mesh.vertices }
-    requires marks { length marks.old ≡ finder.old.mesh.vertices }
-    requires positive { IsSurface finder.old.mesh × ArePositive finder.old.mesh finder.old.lengths }
-    requires ahead { IsAhead finder.old scout.old.finder marks.old }
-    requires first { IsFirstIn finder.old.mesh finder.old.lengths finder.old.signs
-        (is_marked marks.old) first.now }
-    ensures ahead { IsAhead finder.old scout.new.finder marks.new }
-    ensures first { IfOk result (IsFirstIn finder.old.mesh finder.old.lengths finder.old.signs
-        (is_marked marks.new)) }
+    requires base { base < surface.now.mesh.now.vertices }
+    requires barring { IsBarring (surface_of surface.now) finder.old marks.old }
+    requires first { IsFirstIn surface.now.mesh.now surface.now.lengths.now
+        surface.now.signatures.now (is_marked marks.old) first.now }
+    ensures barring { IsBarring (surface_of surface.now) finder.new marks.new }
+    ensures first { IfOk result (IsFirstIn surface.now.mesh.now surface.now.lengths.now
+        surface.now.signatures.now (is_marked marks.new)) }
     ensures marked { OnOk result (IsTrue (is_marked marks.new base)) }
     ensures stay { (v : ℕ) → IsTrue (is_marked marks.old v) → IsTrue (is_marked marks.new v) }
-    ensures count { length marks.new ≡ length marks.old }
-    ensures same { finder.new ≡ finder.old }
 {
+    surface.mesh.law_of_surface();
+    finder.law_of_finder();
     if marks[base.index()] {
         return Ok(*first);
     }
-    let wide = scout.pace.limit(first);
-    let told = scout_first(&mut scout.finder, base, first, &wide, marks)?;
-    scout.pace.step(told);
+    let wide = pace.limit(first);
+    let told = scout_first(finder, base, first, &wide, marks)?;
+    pace.step(told);
     if told {
         return Ok(*first);
     }
     let next = finder.first_loop(base, first)?;
-    scout.finder.mark(base, marks);
+    finder.mark(base, marks);
     Ok(next)
 }
 
@@ -117,27 +118,30 @@ fn visit_first(
 // longer are passed over.
 fn first_passed(
     alloc: Global,
+    surface: &SignedSurface<'_>,
     finder: &mut Finder<'_>,
-    scout: &mut Scout<'_>,
     vertices: &[VertexId],
 ) -> Result<Option<Candidate>, NoMemory>
-    requires inside { All (λ v. v < finder.old.mesh.vertices) vertices.now }
-    requires positive { IsSurface finder.old.mesh × ArePositive finder.old.mesh finder.old.lengths }
-    requires scout { scout.old.finder ≡ finder.old }
-    ensures first { IfOk result (IsFirstAmong finder.old.mesh finder.old.lengths finder.old.signs
-        vertices.now) }
+    requires inside { All (λ v. v < surface.now.mesh.now.vertices) vertices.now }
+    requires lengths { length surface.now.lengths.now ≡ edge_count surface.now.mesh.now }
+    requires finder { finder.old ≡ surface_of surface.now }
+    ensures first { IfOk result (IsFirstAmong surface.now.mesh.now surface.now.lengths.now
+        surface.now.signatures.now vertices.now) }
 {
+    surface.mesh.law_of_surface();
+    surface.lengths.law_of_lengths();
     let mut first = None;
-    let mut marks = vec![in alloc; false; finder.vertices() as usize]?;
+    let mut pace = Pace::new();
+    let mut marks = vec![in alloc; false; surface.mesh.vertices() as usize]?;
     for v in vertices {
-        let next = visit_first(finder, scout, *v, &first, &mut marks)?;
+        let next = visit_first(surface, finder, &mut pace, *v, &first, &mut marks)?;
         first = next;
     }
     Ok(first)
 }
 
 /// The first of the loops at some vertices that aren't null. None where each is null. Where all
-/// lengths are the same no vertex would be passed over, and no scout goes ahead.
+/// lengths are the same no vertex would be passed over, and none is barred.
 pub fn first_among(
     alloc: Global,
     surface: &SignedSurface<'_>,
@@ -156,9 +160,5 @@ pub fn first_among(
     if even_length(surface.lengths).is_some() {
         return first_found(&mut finder, vertices);
     }
-    let mut scout = Scout {
-        finder: Finder::make(alloc, surface)?,
-        pace: Pace::new(),
-    };
-    first_passed(alloc, &mut finder, &mut scout, vertices)
+    first_passed(alloc, surface, &mut finder, vertices)
 }

@@ -2,14 +2,16 @@
 ghost use Rattle.std.specs.Prelude.{ℕ, ◌≡◌, ◌<◌, ◌≤◌, ◌+◌, ◌^◌, IfOk, OnOk, length, slice_index};
 ghost use Rattle.surf_surfaces.specs.Surface.{edge_count};
 ghost use Rattle.surf_search.specs.Kinds.{AreKinds};
+ghost use Rattle.surf_search.specs.Signing.{signs_of};
 
 use crate::classes::Classes;
 use crate::hashes::hash_of;
-use crate::surface::SignedSurface;
 use std::alloc::Global;
 use std::marker::Model;
 use surf_base::{EdgeId, NoMemory};
 use surf_bits::{Bits, Signature};
+use surf_cotree::CotreeDesk;
+use surf_mesh::HalfMesh;
 
 /// The kind of each edge by number, and the signature that edges of a kind have. Those of kind 0
 /// have none. Most edges of most surfaces are of few kinds, so signatures are kept once, and two
@@ -51,18 +53,17 @@ fn kind_of(list: &mut Classes, signature: Bits<'_>) -> Result<u32, NoMemory>
 }
 
 impl Kinds {
-    /// Those of the edges of a surface.
-    pub fn make(alloc: Global, surface: &SignedSurface<'_>) -> Result<Kinds, NoMemory>
-        requires table { length surface.now.signatures.now.signatures
-            ≡ edge_count surface.now.mesh.now }
-        ensures kinds { IfOk result (AreKinds surface.now.signatures.now) }
+    /// Those of the edges of a mesh, by the signatures that a tree of its faces gave them.
+    pub fn make(alloc: Global, mesh: &HalfMesh, cotree: &CotreeDesk) -> Result<Kinds, NoMemory>
+        requires table { length cotree.now.signatures ≡ edge_count mesh.now }
+        ensures kinds { IfOk result (AreKinds (signs_of cotree.now)) }
     {
-        surface.mesh.law_of_surface();
-        let mut of = Vec::with_capacity(alloc, surface.mesh.edges() as usize)?;
+        mesh.law_of_surface();
+        let mut of = Vec::with_capacity(alloc, mesh.edges() as usize)?;
         let mut list = Classes::make(alloc)?;
         list.begin()?;
-        for e in 0..surface.mesh.edges() {
-            let kind = kind_of(&mut list, surface.signatures.signature(EdgeId::new(e)))?;
+        for e in 0..mesh.edges() {
+            let kind = kind_of(&mut list, cotree.signature(EdgeId::new(e)))?;
             of.push(kind)?;
         }
         Ok(Kinds { of, list })

@@ -44,13 +44,19 @@
 //! Whether a loop is independent of others is told by its signature, a sum over its edges of
 //! signatures that one base gives for all. Edges with the same signature are of one kind, and ways
 //! with the same sum have one number. So three numbers tell the class of the loop of an edge, and
-//! most loops that a search meets are known by them without a sum (`keys.rt`).
+//! most loops that a search meets are known by them without a sum (`keys.rt`). `EdgeSigns` has the
+//! kinds alone, so the trees that told the signatures may be let go of.
+//!
+//! The first loop of all is found without rounds (`first_loops.rt`), from vertices of which every
+//! closed walk that isn't null meets one. There too the ways through vertices that are done with are
+//! barred: a loop that goes through one comes no sooner than the first loop that is known.
 #![tactic(auto)]
 
 mod caps;
 mod classes;
 mod costs;
 mod degrees;
+mod edge_signs;
 mod finder;
 mod first_loops;
 mod foremost;
@@ -65,13 +71,13 @@ mod reached;
 mod rises;
 mod round;
 mod rounds;
-mod scout;
 mod surface;
 mod told_loops;
 mod walks;
 mod ways;
 
 pub use degrees::{count_signed, lesser_first};
+pub use edge_signs::EdgeSigns;
 pub use finder::Finder;
 pub use first_loops::first_among;
 pub use kept_loops::keep_loops;

@@ -1,6 +1,6 @@
 //! What is searched.
 
-use surf_cotree::CotreeDesk;
+use crate::edge_signs::EdgeSigns;
 use surf_lengths::Lengths;
 use surf_mesh::HalfMesh;
 
@@ -9,5 +9,5 @@ use surf_mesh::HalfMesh;
 pub struct SignedSurface<'a> {
     pub mesh: &'a HalfMesh,
     pub lengths: &'a Lengths,
-    pub signatures: &'a CotreeDesk,
+    pub signatures: &'a EdgeSigns,
 }

@@ -5,13 +5,13 @@ ghost use Rattle.surf_search.specs.Kinds.{AreKinds};
 ghost use Rattle.surf_search.specs.Ways.{class_at, AreWays, HasNone, HasParent, IsNumbered, IsReached};
 
 use crate::classes::Classes;
+use crate::edge_signs::EdgeSigns;
 use crate::kinds::Kinds;
 use crate::surface::SignedSurface;
 use std::alloc::Global;
 use std::marker::Model;
 use surf_base::{NoMemory, VertexId};
 use surf_bits::Signature;
-use surf_cotree::CotreeDesk;
 use surf_mesh::HalfMesh;
 use surf_near::{Links, NearDesk};
 
@@ -74,7 +74,7 @@ impl Ways {
     fn add(
         &mut self,
         desk: &NearDesk,
-        signatures: &CotreeDesk,
+        signatures: &EdgeSigns,
         kinds: &Kinds,
         base: VertexId,
         v: VertexId,

@@ -1,7 +1,6 @@
-use Rattle.surf_basis.proofs.Common.{first_of, as_loops, IsTheBasis, IsFirstCandidate, IsShortestCycle, ◌∙◌, ap, sym, subst, All, ◌<◌, edge_count, IfSome, IfOk-weaker, IsLoopCount, LeastSimpleBasis, lengths_positive, CotreeTables}
+use Rattle.surf_basis.proofs.Common.{first_of, as_loops, IsTheBasis, IsFirstCandidate, IsShortestCycle, subst, IfSome, IfOk-weaker, IsLoopCount, LeastSimpleBasis, lengths_positive}
 use Rattle.surf_basis.proofs.First.{first_shortest}
 use Rattle.surf_basis.proofs.Leading.{basis_first}
-use Rattle.surf_basis.proofs.OnCut.{left_inside}
 use Rattle.surf_basis.proofs.Whole.{left_count, least_of, none_basis}
 use Rattle.surf_basis.proofs.basis.least_basis.Goals as goal
 
@@ -10,8 +9,7 @@ returns-then-count-eq0-clause-chosen c =
     let mesh = c.args.mesh.now in
     let lengths = c.args.lengths.now in
     let positive = lengths_positive mesh lengths c.law_of_lengths.ensures.lengths c.requires.lengths in
-    let left = c.left-count.ensures.left ∙ ap (λ (t : CotreeTables). t.left) c.cotree.ensures.cotree in
-    let full = left_count mesh c.in_ok-desk.desk.cotree c.left-count.result.now c.in_ok-desk.ensures.full left in
+    let full = left_count mesh c.in_ok-desk.signs c.left-count.result.now c.in_ok-desk.ensures.full c.left-count.ensures.left in
     none_basis mesh lengths c.law_of_surface.ensures.surface positive c.new.result.items c.new.ensures.items (subst (IsLoopCount mesh) c.if-count-eq0.true full)
 
 pub returns-then-count-eq0-clause-least : goal.returns-then-count-eq0-clause-least
@@ -59,9 +57,3 @@ returns-clause-shortest c =
     IfOk-weaker c.basis_over.result (λ cycles. IsFirstCandidate mesh lengths (first_of cycles.items))
     (λ cycles. IfSome (first_of cycles.items) (λ cycle. IsShortestCycle mesh lengths cycle))
     (λ cycles is. first_shortest mesh lengths c.law_of_surface.ensures.surface positive (first_of cycles.items) is) (returns-clause-first c)
-
-pub basis_over-requires-clause-left : goal.basis_over-requires-clause-left
-basis_over-requires-clause-left c =
-    let mesh = c.args.mesh.now in
-    subst (λ (t : CotreeTables). All (λ e. e < edge_count mesh) t.left) (sym c.into_cotree-signed.ensures.cotree)
-    (left_inside mesh c.in_ok-desk.desk c.in_ok-desk.ensures.divided)

@@ -1,5 +1,5 @@
-use Rattle.surf_basis.proofs.Common.{LoopTables, ◌<◌, length, refl, sym, ap, subst, IsLoopCount, some_vertex}
-use Rattle.surf_basis.proofs.OnCut.{desk_divided}
+use Rattle.surf_basis.proofs.Common.{LoopTables, SignTables, All, ◌<◌, ◌∙◌, length, refl, sym, ap, subst, edge_count, signs_of, AreSigned, IsLoopCount, some_vertex}
+use Rattle.surf_basis.proofs.OnCut.{desk_divided, left_inside}
 use Rattle.surf_basis.proofs.Whole.{left_full, desk_signed}
 use Rattle.surf_basis.proofs.desk.signed_desk.Goals as goal
 
@@ -8,17 +8,31 @@ greedy-requires-clause-base c = subst (λ n. n < c.args.mesh.now.vertices) (sym 
 
 pub returns-clause-signed : goal.returns-clause-signed
 returns-clause-signed c =
+    let mesh = c.args.mesh.now in
     let t = c.greedy.new.self in
+    let new = c.sign.new.self in
+    let at = c.in_ok-signs.ensures.made ∙ ap signs_of c.cotree.ensures.cotree in
     let many = ap (λ (x : LoopTables). length x.cotree.left) c.sign.ensures.rest in
-    desk_signed c.args.mesh.now c.args.lengths.now c.new.result t c.sign.new.self t.cotree c.sign.new.self.cotree t.cotree.left (length c.sign.new.self.cotree.left)
-    c.greedy.ensures.greedy refl refl many c.sign.ensures.rest c.sign.ensures.signed refl
+    subst (λ (s : SignTables). AreSigned mesh s (length s.left)) (sym at)
+    (desk_signed mesh c.args.lengths.now c.new.result t new t.cotree new.cotree t.cotree.left (length new.cotree.left) c.greedy.ensures.greedy
+    refl refl many c.sign.ensures.rest c.sign.ensures.signed refl)
+
+pub returns-clause-left : goal.returns-clause-left
+returns-clause-left c =
+    let mesh = c.args.mesh.now in
+    let at = c.in_ok-signs.ensures.made ∙ ap signs_of c.cotree.ensures.cotree in
+    subst (λ (s : SignTables). All (λ e. e < edge_count mesh) s.left) (sym at)
+    (left_inside mesh c.sign.new.self
+    (desk_divided mesh c.args.lengths.now c.new.result c.greedy.new.self c.sign.new.self c.greedy.ensures.greedy c.sign.ensures.rest))
 
 pub returns-clause-full : goal.returns-clause-full
 returns-clause-full c =
+    let mesh = c.args.mesh.now in
     let t = c.greedy.new.self in
+    let at = c.in_ok-signs.ensures.made ∙ ap signs_of c.cotree.ensures.cotree in
     let many = ap (λ (x : LoopTables). length x.cotree.left) c.sign.ensures.rest in
-    subst (IsLoopCount c.args.mesh.now) (sym many)
-    (left_full c.args.mesh.now c.args.lengths.now c.new.result t t.cotree t.cotree.left c.greedy.ensures.greedy refl refl)
+    subst (λ (s : SignTables). IsLoopCount mesh (length s.left)) (sym at)
+    (subst (IsLoopCount mesh) (sym many) (left_full mesh c.args.lengths.now c.new.result t t.cotree t.cotree.left c.greedy.ensures.greedy refl refl))
 
 pub returns-clause-divided : goal.returns-clause-divided
 returns-clause-divided c =

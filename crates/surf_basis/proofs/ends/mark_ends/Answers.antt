@@ -1,8 +1,9 @@
-use Rattle.surf_basis.proofs.Common.{ℕ, ◌≡◌, ◌≢◌, ◌<◌, true, false, slice_index, sym, ap, ◌∙◌, subst, arith, inl, inr, ◌⊎◌, slice_index_or, cases_lt, nat_tests, ends, edge_count, by_degree, ends_inside, either_below}
+use Rattle.surf_basis.proofs.Common.{ℕ, ◌≡◌, ◌≢◌, ◌<◌, true, false, slice_index, sym, ap, ◌∙◌, subst, arith, inl, inr, ◌⊎◌, slice_index_or, cases_lt, ends, edge_count, by_degree, ends_inside, either_below}
 use Rattle.surf_basis.proofs.Ended.{end_stays, either_marked}
 use Rattle.surf_search.proofs.Counted.{as_read_or_turned}
+use Rattle.surf_search.proofs.Signed.{signed_none, signed_some}
 use Rattle.surf_basis.proofs.ends.mark_ends.Goals as goal
-use Rattle.surf_basis.proofs.ends.mark_ends.Goals.{then-not-is_empty, else-not-is_empty}
+use Rattle.surf_basis.proofs.ends.mark_ends.Goals.{then-is_signed, else-is_signed}
 
 pub lesser_first-less-requires-clause-low : goal.lesser_first-less-requires-clause-low
 lesser_first-less-requires-clause-low c =
@@ -31,15 +32,13 @@ loop-e-preserved c =
     let n = c.loop-e.e in
     let inv = c.loop-e.invariant in
     let at : c.new-edge.result ≡ n = c.new-edge.ensures in
-    elim c.if-not-is_empty.branch [
-      | then-not-is_empty w ↦
+    elim c.if-is_signed.branch [
+      | then-is_signed w ↦
           let is = w.ends-low.ensures ∙ ap (ends mesh) at in
           let e_in : n < edge_count mesh = omega (arith, c.loop-e-test.true, c.edges-e-end.ensures.count) in
-          let signed : slice_index c.args.signatures.now.signatures n ≢ 0 = λ none.
-          let zero : c.signature.result ≡ 0 = c.signature.ensures.signature ∙ ap (slice_index c.args.signatures.now.signatures) at ∙ none in
-          let t = c.is_empty.ensures.empty in
-          let u = w.if-not-is_empty.true in
-          grind (arith, nat_tests) in
+          let signed : slice_index c.args.signatures.now.signatures n ≢ 0 =
+          subst (λ e. slice_index c.args.signatures.now.signatures e ≢ 0) at
+          (signed_some c.args.signatures.now c.new-edge.result (sym c.is_signed.ensures.signed ∙ w.if-is_signed.true)) in
           rw w.marked-is (record {
             count = w.mark_one.ensures.count ∙ inv.count;
             ends = λ e l some. elim (cases_lt e n) [
@@ -61,9 +60,10 @@ loop-e-preserved c =
               )
             ];
           })
-      | else-not-is_empty w ↦
+      | else-is_signed w ↦
           let zero : slice_index c.args.signatures.now.signatures n ≡ 0 =
-          ap (slice_index c.args.signatures.now.signatures) (sym at) ∙ sym c.signature.ensures.signature ∙ (let t = c.is_empty.ensures.empty in let u = w.if-not-is_empty.false in grind (arith, nat_tests)) in
+          ap (slice_index c.args.signatures.now.signatures) (sym at)
+          ∙ signed_none c.args.signatures.now c.new-edge.result (sym c.is_signed.ensures.signed ∙ w.if-is_signed.false) in
           rw w.marked-is (record {
             count = inv.count;
             ends = λ e l some. elim (cases_lt e n) [

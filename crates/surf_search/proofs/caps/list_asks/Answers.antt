@@ -1,9 +1,14 @@
 use Rattle.surf_search.proofs.Common.{◌≡◌, ◌<◌, ◌^◌, All, List, min, slice_index, inl, inr, sym, ap, ◌∙◌, subst, arith, cases_eq, nat_tests, edge_count, All-push, IsSumOfLength, Ask, IsAsked}
 use Rattle.surf_search.proofs.Asked.{sign_small}
 use Rattle.surf_search.proofs.Capping.{asks_same, asks_more}
-use Rattle.surf_search.proofs.Signed.{signs_long}
+use Rattle.surf_search.proofs.Signed.{signed_none, signs_long}
 use Rattle.surf_search.proofs.caps.list_asks.Goals as goal
-use Rattle.surf_search.proofs.caps.list_asks.Goals.{then-not-is_empty+in_ok-push, else-not-is_empty}
+use Rattle.surf_search.proofs.caps.list_asks.Goals.{then-is_signed+in_ok-push, else-is_signed}
+
+pub is_signed-requires : goal.is_signed-requires
+is_signed-requires c =
+    let n = signs_long c.args.surface.now.mesh.now c.args.surface.now.signatures.now c.args.choice.now.width c.requires.signed in
+    record { edge = omega (arith, n, c.new-edge.ensures, c.loop-e-test.true, c.edges-e-end.ensures.count) }
 
 pub signature-signature-requires : goal.signature-signature-requires
 signature-signature-requires c =
@@ -26,12 +31,12 @@ loop-e-preserved c =
     let kept = c.args.choice.now.kept in
     let old = c.loop-e.asks.items in
     let at : c.new-edge.result ≡ c.loop-e.e = c.new-edge.ensures in
-    elim c.if-not-is_empty.branch [
-      | then-not-is_empty+in_ok-push w ↦
+    elim c.if-is_signed.branch [
+      | then-is_signed+in_ok-push w ↦
           let a : Ask = record { length = w.min-length.result; edge = c.new-edge.result } in
           let ask = w.sum_length.result in
-          let sign : c.signature-signature.result ≡ slice_index s.signatures c.loop-e.e =
-          c.signature-signature.ensures.signature ∙ ap (slice_index s.signatures) at in
+          let sign : w.signature-signature.result ≡ slice_index s.signatures c.loop-e.e =
+          w.signature-signature.ensures.signature ∙ ap (slice_index s.signatures) at in
           let asked : IsAsked kept ask (slice_index s.signatures c.loop-e.e) = elim (cases_eq ask 18446744073709551615) [
             | inl all ↦ inl all
             | inr some ↦ inr (subst (IsSumOfLength kept ask) sign (w.sum_length.ensures.sum some))
@@ -46,9 +51,9 @@ loop-e-preserved c =
                 (sym w.in_ok-push.ensures.items)
                 (All-push (λ (b : Ask). b.edge < edge_count c.args.surface.now.mesh.now) old a c.loop-e.invariant.inside e_in);
           })
-      | else-not-is_empty w ↦
+      | else-is_signed w ↦
           let zero : slice_index s.signatures c.loop-e.e ≡ 0 =
-          ap (slice_index s.signatures) (sym at) ∙ sym c.signature-signature.ensures.signature
-          ∙ (let t = c.is_empty.ensures.empty in let u = w.if-not-is_empty.false in grind (arith, nat_tests)) in
+          ap (slice_index s.signatures) (sym at)
+          ∙ signed_none s c.new-edge.result (sym c.is_signed.ensures.signed ∙ w.if-is_signed.false) in
           rw w.asks-is (record { asks = asks_same s kept c.args.most c.loop-e.e old c.loop-e.invariant.asks zero; inside = c.loop-e.invariant.inside })
     ]

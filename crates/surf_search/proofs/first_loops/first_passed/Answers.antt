@@ -1,4 +1,4 @@
-use Rattle.surf_search.proofs.Common.{◌≡◌, ◌<◌, ◌+◌, ◌++◌, ℕ, Bool, List, length, take, drop, sym, ap, ◌∙◌, subst, arith, inl, inr, IsTrue, slice_index, cases_lt, get_or_default, shortest_trees, SurfaceTables, is_among, is_marked, IsAhead, IsFirstIn}
+use Rattle.surf_search.proofs.Common.{◌≡◌, ◌<◌, ◌+◌, ◌++◌, ℕ, Bool, List, length, take, drop, sym, ap, ◌∙◌, subst, arith, inl, inr, IsTrue, slice_index, cases_lt, get_or_default, shortest_trees, surface_of, is_among, is_marked, IsBarring, IsFirstIn}
 use Rattle.surf_search.proofs.Marked.{written_back}
 use Rattle.surf_search.proofs.PassedOver.{among_marked}
 use Rattle.surf_search.proofs.FirstFound.{first_fewer}
@@ -6,21 +6,23 @@ use Rattle.surf_search.proofs.first_loops.first_passed.Goals as goal
 
 pub visit_first-requires-clause-first : goal.visit_first-requires-clause-first
 visit_first-requires-clause-first c =
-    subst (λ (f : SurfaceTables). IsFirstIn f.mesh f.lengths f.signs (is_marked c.deref_mut.result.now) c.loop-v.first) (sym c.loop-v.invariant.same)
-    (subst (λ (ms : List Bool). IsFirstIn c.args.finder.now.mesh c.args.finder.now.lengths c.args.finder.now.signs (is_marked ms) c.loop-v.first)
-    (sym c.deref_mut.ensures.value) c.loop-v.invariant.first)
+    let s = c.args.surface.now in
+    subst (λ (ms : List Bool). IsFirstIn s.mesh.now s.lengths.now s.signatures.now (is_marked ms) c.loop-v.first)
+    (sym c.deref_mut.ensures.value) c.loop-v.invariant.first
 
 pub loop-v-preserved : goal.loop-v-preserved
 loop-v-preserved c =
-    let f = c.args.finder.now in
+    let s = c.args.surface.now in
+    let f = surface_of s in
     let vs = c.args.vertices.now in
     let marks = c.visit_first.new.marks in
     let next = c.in_ok-next.next in
-    let rest = drop (length c.visit_first.new.marks) c.loop-v.marks.items in
+    let rest = drop (length marks) c.loop-v.marks.items in
+    let here = c.visit_first.ensures.barring.count in
+    let before = c.loop-v.invariant.barring.count in
     let written : take c.loop-v.marks.len (marks ++ rest) ≡ marks =
-    written_back marks rest c.loop-v.marks.len (omega (arith, c.visit_first.ensures.count, c.deref_mut.ensures.len)) in
-    let value = ap (λ (ms : List Bool). length ms) c.deref_mut.ensures.value in
-    let same = c.loop-v.invariant.same in
+    written_back marks rest c.loop-v.marks.len (let value = ap (λ (ms : List Bool). length ms) c.deref_mut.ensures.value in
+    omega (arith, here, before, value, c.deref_mut.ensures.len)) in
     let all : (i : ℕ) → i < c.loop-v.v-index + 1 → IsTrue (is_marked marks (slice_index vs i)) = λ i l.
     elim (cases_lt i c.loop-v.v-index) [
       | inl less ↦ c.visit_first.ensures.stay (slice_index vs i) (subst (λ (ms : List Bool). IsTrue (is_marked ms (slice_index vs i)))
@@ -32,20 +34,17 @@ loop-v-preserved c =
           subst (λ v. IsTrue (is_marked marks v)) (sym is) c.in_ok-next.ensures.marked
     ] in
     record {
-      same = c.visit_first.ensures.same ∙ same;
-      ahead = subst (λ (ms : List Bool). IsAhead f c.visit_first.new.scout.finder ms) (sym written)
-          (subst (λ (g : SurfaceTables). IsAhead g c.visit_first.new.scout.finder marks) same c.visit_first.ensures.ahead);
-      count = ap (λ (ms : List Bool). length ms) written ∙ c.visit_first.ensures.count ∙ value ∙ c.loop-v.invariant.count;
-      first = subst (λ (ms : List Bool). IsFirstIn f.mesh f.lengths f.signs (is_marked ms) next) (sym written)
-          (subst (λ (g : SurfaceTables). IsFirstIn g.mesh g.lengths g.signs (is_marked marks) next) same c.in_ok-next.ensures.first);
+      barring = subst (λ (ms : List Bool). IsBarring f c.visit_first.new.finder ms) (sym written) c.visit_first.ensures.barring;
+      first = subst (λ (ms : List Bool). IsFirstIn s.mesh.now s.lengths.now s.signatures.now (is_marked ms) next) (sym written)
+          c.in_ok-next.ensures.first;
       all = λ i l. subst (λ (ms : List Bool). IsTrue (is_marked ms (slice_index vs i))) (sym written) (all i l);
     }
 
 pub returns : goal.returns
 returns c =
-    let f = c.args.finder.now in
-    let surface = c.requires.positive.0 in
-    let positive = c.requires.positive.1 in
+    let f = surface_of c.args.surface.now in
+    let surface = c.law_of_surface.ensures.surface in
+    let positive = c.loop-v.invariant.barring.positive in
     let past = c.loop-v-test.false in
     record {
       first = λ trees chosen d split are.
