@@ -1,13 +1,13 @@
 -- The loops that a search finds at a base, and those of them that are chosen.
 use Rattle.surf_basis.proofs.Common.{based_at, IsOffered, AreOffered, loop_in, loops_in, IsSigned, ◌≡◌, ℕ, ◌+◌, ◌^◌, ◌<◌, ◌≤◌, ◌++◌, Bool, true, false, not, cond, List, [], ◌∷◌, length, get_or, map, filter, take, All, Contains, IsPermutation, Some, ◌⊎◌, refl, sym, ap, ◌∙◌, subst, arith, inl, inr, IsTrue, ◌==◌, AllByRecursion, cases_Bool, false≢true, le-leb, or_cases, eqb-true, nat_tests, length-map, get_or-map, take_more, map-append, all_filtered, Split, IsSplit, Tree, Mesh, edge_count, IsSurface, ArePositive, IsNull, cells_of, class_of, AreShortestTrees, loop_walk, loop_length, comes_before, loop_at, loops_at, comes_sooner, least_base, IsNonDecreasingBy, recursion_from_All, All-from_recursion, All-contains, Contains-get_or, filter_more, Contains-permutation, All-permutation, contains-map, choice_exists, least_base_on_way, shortest_trees, all_each, all_mapped, IsLoopAt, loops_each, SignTables, Candidate, Signed, Chosen, signed_earlier, independent_of, place_of, is_sought, order_of, all_kept, has_length, AreSigned, AreFoundBy, AreFirstFound, HasNoLater, precedes, IsShort, IsNext, is_left, class_small, zero_null}
 use Rattle.surf_search.proofs.Common.{merge, Trees, AreChosen, Loop, place_at, IsFound}
-use Rattle.surf_search.specs.declared.told_loops.Ties.TheVariants.{LesserBase, LesserEdge}
+use Rattle.surf_finder.specs.declared.told_loops.Ties.TheVariants.{LesserBase, LesserEdge}
 use Rattle.std.proofs.lemmas.List.Sorted.{IsPermutation-append_right, IsPermutation-refl, IsPermutation-trans}
 use Rattle.surf_firsts.specs.Firsts.{is_no_later, is_up_to, loops_up_to, IsLoopUpTo, AreLoopsUpTo}
 use Rattle.surf_firsts.proofs.FirstLoops.{each_in, filter_twice, first_loops}
 use Rattle.surf_basis.proofs.Kept.{kept_after}
 use Rattle.surf_search.proofs.LeftOut.{IsRepeated, all_left, all_right, left_out, precedes_order, put_in, put_same}
-use Rattle.surf_search.proofs.Told.{sooner_size}
+use Rattle.surf_finder.proofs.Told.{sooner_size}
 
 -- a candidate is the loop of its edge at the base, with its class, and at most so long
 record IsBased (mesh : Mesh) (lengths : List ℕ) (trees : ℕ → Trees) (d : Split) (base most : ℕ) (c : Signed) : Type 0 where

@@ -2,7 +2,7 @@
 use Rattle.surf_basis.proofs.Common.{ArePutIn, Cycle, HaveWalks, cycle_with, cycles_with, ◌≡◌, ℕ, zero, suc, ◌<◌, ◌++◌, ◌∷◌, [], List, length, get_or, set, refl, sym, ap, ◌∙◌, subst, arith, inl, inr, All-contains, All-from_recursion, AllByRecursion, Contains, cases_eq, get_or-replicate, get_or-set_other, get_or_default, length-set, replicate, Mesh, Signed, AreWalksOf}
 use Rattle.std.proofs.lemmas.List.Elements.{Contains-append_left, Contains-append_right}
 use Rattle.surf_surfaces.proofs.Common.{get_or-set_same, length-replicate}
-use Rattle.surf_search.specs.Walks.{AreWrittenTo, IsLoopWalk}
+use Rattle.surf_finder.specs.Walks.{AreWrittenTo, IsLoopWalk}
 
 module _ (cycles : List Cycle) (kept : List Signed) where
   -- at first no walk is there

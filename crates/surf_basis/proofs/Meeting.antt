@@ -1,10 +1,10 @@
 -- Lists of vertices that every closed walk meets which isn't null.
 use Rattle.surf_basis.proofs.Common.{tree_of, LoopTables, AreCutVertices, HasSignedEnds, IsDividedBy, ℕ, List, sym, ◌∙◌, inl, inr, Mesh, ends, IsSurface, SignTables, cotree_of, is_among, AreSigned, among_contained, Contains-permutation, IsPermutation}
 use Rattle.surf_search.proofs.Common.{MeetsAll}
-use Rattle.surf_search.proofs.Searched.{among_contains}
+use Rattle.surf_finder.proofs.Searched.{among_contains}
 use Rattle.surf_surfaces.proofs.walks.SignedEndsLaws.{signed_ends_meet_all}
 use Rattle.surf_opening.proofs.cuts.OffTheCutMarked.{walks_are_null_or_meet_marked}
-use Rattle.surf_search.proofs.Climbed.{at_edge}
+use Rattle.surf_finder.proofs.Climbed.{at_edge}
 
 -- a list with an end of each edge with a signature
 pub ends_meet : (mesh : Mesh) → IsSurface mesh → (s : SignTables) (width : ℕ) → AreSigned mesh s width → (vs : List ℕ) →

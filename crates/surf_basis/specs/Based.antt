@@ -4,11 +4,11 @@ use Rattle.surf_graphs.specs.Cells.{Split, IsSplit}
 use Rattle.surf_surfaces.specs.Mesh.{Mesh}
 use Rattle.surf_surfaces.specs.Cells.{cells_of}
 use Rattle.surf_surfaces.specs.Choice.{Trees, AreChosen, loops_at}
-use Rattle.surf_search.specs.Signing.{SignTables}
+use Rattle.surf_finder.specs.Signing.{SignTables}
 use Rattle.surf_choice.specs.declared.candidate.Signed.{Signed}
 use Rattle.surf_basis.specs.Candidates.{loops_in, IsSigned}
 use Rattle.surf_search.specs.Places.{has_length}
-use Rattle.surf_search.specs.Signing.{AreSignatures}
+use Rattle.surf_finder.specs.Signing.{AreSignatures}
 
 -- a loop that was found at a vertex, as one of this base
 abbrev pub based_at : ℕ → Signed → Signed

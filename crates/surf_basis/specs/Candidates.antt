@@ -14,7 +14,7 @@ use Rattle.surf_loops.specs.declared.head.LoopHead.{LoopHead}
 use Rattle.surf_loops.specs.Loops.{LoopTables}
 use Rattle.surf_choice.specs.declared.candidate.Candidate.{Candidate}
 use Rattle.surf_choice.specs.declared.candidate.Signed.{Signed}
-use Rattle.surf_search.specs.Walks.{IsLoopWalk}
+use Rattle.surf_finder.specs.Walks.{IsLoopWalk}
 use Rattle.surf_basis.specs.Cycles.{first_of}
 use Rattle.surf_basis.specs.declared.cycle.Cycle.{Cycle}
 

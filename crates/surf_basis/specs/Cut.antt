@@ -7,8 +7,8 @@ use Rattle.surf_tree.specs.Tables.{tree_of}
 use Rattle.surf_tree.specs.Queues.{AreEven}
 use Rattle.surf_cotree.specs.Tables.{cotree_of}
 use Rattle.surf_loops.specs.Loops.{LoopTables, IsRooted}
-use Rattle.surf_search.specs.Found.{is_among}
-use Rattle.surf_search.specs.Signing.{signs_of}
+use Rattle.surf_finder.specs.Found.{is_among}
+use Rattle.surf_finder.specs.Signing.{signs_of}
 use Rattle.surf_basis.specs.Ends.{AreSignedEnds}
 use Rattle.surf_surfaces.specs.Cotree.{left_edges}
 use Rattle.surf_opening.specs.ChosenCut.{AreDivided}

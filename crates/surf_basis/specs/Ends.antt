@@ -2,9 +2,10 @@
 use Rattle.std.specs.Prelude.{ℕ, ◌≡◌, ◌≢◌, ◌<◌, ◌⊎◌, true, false, Bool, List, All, Contains, slice_index, slice_index_or}
 use Rattle.surf_surfaces.specs.Mesh.{Mesh}
 use Rattle.surf_surfaces.specs.Surface.{edge_count, ends}
-use Rattle.surf_search.specs.Signing.{SignTables}
+use Rattle.surf_finder.specs.Signing.{SignTables}
 use Rattle.surf_surfaces.specs.Degrees.{degree_in}
-use Rattle.surf_search.specs.Marks.{by_degree, is_signed}
+use Rattle.surf_search.specs.Degrees.{by_degree}
+use Rattle.surf_finder.specs.Marks.{is_signed}
 
 -- an end of the edge is marked
 abbrev pub HasMarkedEnd : Mesh → List Bool → ℕ → Type 0

@@ -8,11 +8,11 @@ use Rattle.surf_surfaces.specs.Cells.{cells_of}
 use Rattle.surf_surfaces.specs.Class.{class_of}
 use Rattle.surf_surfaces.specs.Choice.{Trees, AreChosen, Loop, loops_below}
 use Rattle.surf_surfaces.specs.FewBases.{place_of_loop}
-use Rattle.surf_search.specs.Signing.{SignTables}
+use Rattle.surf_finder.specs.Signing.{SignTables}
 use Rattle.surf_choice.specs.declared.candidate.Signed.{Signed}
 use Rattle.surf_basis.specs.Candidates.{IsSigned, loops_in}
 use Rattle.surf_search.specs.Places.{is_placed}
-use Rattle.surf_search.specs.Signing.{AreSignatures}
+use Rattle.surf_finder.specs.Signing.{AreSignatures}
 
 -- of the loops at the first vertices, in order, those that have the length and the base of one of some candidates
 abbrev pub placed_below : Mesh → List ℕ → (ℕ → Trees) → List Signed → ℕ → List Loop

@@ -4,11 +4,12 @@ ghost use Rattle.surf_surfaces.specs.Surface.{edge_count, IsSurface};
 ghost use Rattle.surf_surfaces.specs.Walk.{ArePositive};
 ghost use Rattle.surf_basis.specs.Based.{based_at, AreOffered};
 ghost use Rattle.surf_search.specs.Places.{has_length, lengths_at};
-ghost use Rattle.surf_search.specs.Signing.{AreSigned};
+ghost use Rattle.surf_finder.specs.Signing.{AreSigned};
 
 use surf_base::{EdgeId, NoMemory, VertexId};
 use surf_choice::{Candidate, Choice, Signed, copy_of};
-use surf_search::{Finder, Ties, keep_loops};
+use surf_finder::{Finder, Ties};
+use surf_search::keep_loops;
 
 // The greatest of some lengths, and 0 where there is none.
 fn greatest_of(lengths: &[u64]) -> u64

@@ -6,8 +6,8 @@ ghost use Rattle.surf_basis.specs.Kept.{HasBases};
 use std::alloc::Global;
 use surf_base::{NoMemory, VertexId};
 use surf_choice::Signed;
+use surf_finder::list_marked;
 use surf_mesh::HalfMesh;
-use surf_search::list_marked;
 
 // Marks the bases of candidates.
 fn mark_bases(kept: &[Signed], marked: &mut [bool])

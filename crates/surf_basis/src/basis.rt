@@ -7,10 +7,10 @@ ghost use Rattle.surf_surfaces.specs.FewBases.{AreBases, MeetsAll};
 ghost use Rattle.surf_surfaces.specs.ChoiceLaws.{LeastSimpleBasis};
 ghost use Rattle.surf_basis.specs.Candidates.{AreCyclesOf};
 ghost use Rattle.surf_basis.specs.Cycles.{first_of, IsFirstCandidate, IsShortestCycle, IsTheBasis, as_loops};
-ghost use Rattle.surf_search.specs.Found.{is_among, surface_of};
+ghost use Rattle.surf_finder.specs.Found.{is_among, surface_of};
 ghost use Rattle.surf_basis.specs.Kept.{AreKeptOver, HasBases};
 ghost use Rattle.surf_search.specs.Places.{HavePlacesOfBasis};
-ghost use Rattle.surf_search.specs.Signing.{AreSigned};
+ghost use Rattle.surf_finder.specs.Signing.{AreSigned};
 ghost use Rattle.surf_base.specs.declared.limits.TheConstants.{MAX_LOOPS};
 
 use crate::base_loops::{list_lengths, loops_at};
@@ -22,9 +22,10 @@ use crate::desk::signed_desk;
 use std::alloc::Global;
 use surf_base::{NoMemory, VertexId};
 use surf_choice::{Choice, Signed};
+use surf_finder::{Finder, SignedSurface};
 use surf_lengths::Lengths;
 use surf_mesh::HalfMesh;
-use surf_search::{Finder, SignedSurface, sufficient_loops};
+use surf_search::sufficient_loops;
 
 // Makes the choice from those loops at some bases that have the lengths of candidates there, and
 // gives the cycles of the loops that are kept. They are read off the search at their base, while

@@ -6,17 +6,17 @@ ghost use Rattle.surf_surfaces.specs.Surface.{edge_count};
 ghost use Rattle.surf_tree.specs.Tables.{tree_of};
 ghost use Rattle.surf_loops.specs.Loops.{IsRooted};
 ghost use Rattle.surf_basis.specs.Cut.{AreCutVertices, AreToSearch, IsLeastSet, HasEnds, HasVertex, IsClosedUpward, IsDividedBy};
-ghost use Rattle.surf_search.specs.Found.{is_among};
-ghost use Rattle.surf_search.specs.Passing.{is_marked};
-ghost use Rattle.surf_search.specs.Signing.{AreSigned, signs_of};
+ghost use Rattle.surf_finder.specs.Found.{is_among};
+ghost use Rattle.surf_finder.specs.Passing.{is_marked};
+ghost use Rattle.surf_finder.specs.Signing.{AreSigned, signs_of};
 
 use crate::ends::signed_ends;
 use std::alloc::Global;
 use surf_base::{EdgeId, NoMemory, VertexId};
+use surf_finder::{EdgeSigns, list_marked};
 use surf_lengths::Lengths;
 use surf_loops::LoopDesk;
 use surf_mesh::HalfMesh;
-use surf_search::{EdgeSigns, list_marked};
 use surf_tree::{TreeDesk, even_length};
 
 // Marks a vertex and those on its way up to the base, as far as the first that is marked already.

@@ -4,17 +4,17 @@ ghost use Rattle.surf_surfaces.specs.Surface.{edge_count};
 ghost use Rattle.surf_tree.specs.Grown.{IsGrown as IsTreeGrown};
 ghost use Rattle.surf_choice.specs.Candidates.{earlier};
 ghost use Rattle.surf_choice.specs.declared.candidate.Signed.{Signed};
-ghost use Rattle.surf_search.specs.Walks.{IsMeasured};
+ghost use Rattle.surf_finder.specs.Walks.{IsMeasured};
 ghost use Rattle.surf_basis.specs.Candidates.{IsInside, IsCycleOf, AreCyclesOf, ArePutIn, HaveWalks, cycles_with};
 
 use crate::cycle::Cycle;
 use std::alloc::Global;
 use surf_base::NoMemory;
 use surf_choice::{Candidate, Signed, comes_before};
+use surf_finder::{Finder, no_walks};
 use surf_lengths::Lengths;
 use surf_loops::LoopDesk;
 use surf_mesh::{HalfMesh, Walk};
-use surf_search::{Finder, no_walks};
 
 // The cycle of a candidate at the base of the tree that a desk has.
 pub(crate) fn cycle_of(

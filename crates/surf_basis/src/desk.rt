@@ -2,16 +2,16 @@
 ghost use Rattle.std.specs.Prelude.{◌≡◌, ◌<◌, ◌≤◌, All, length, IfOk};
 ghost use Rattle.surf_surfaces.specs.Homology.{IsLoopCount};
 ghost use Rattle.surf_surfaces.specs.Surface.{edge_count, loop_count};
-ghost use Rattle.surf_search.specs.Signing.{AreSigned, signs_of};
+ghost use Rattle.surf_finder.specs.Signing.{AreSigned, signs_of};
 ghost use Rattle.surf_basis.specs.Cut.{IsDividedBy};
 ghost use Rattle.surf_base.specs.declared.limits.TheConstants.{MAX_LOOPS};
 
 use std::alloc::Global;
 use surf_base::{NoMemory, VertexId};
+use surf_finder::EdgeSigns;
 use surf_lengths::Lengths;
 use surf_loops::LoopDesk;
 use surf_mesh::HalfMesh;
-use surf_search::EdgeSigns;
 
 /// The loops that are chosen at vertex 0, and the signatures of all edges by the trees there. The
 /// signatures stand by themselves, so that the desk may be let go of.

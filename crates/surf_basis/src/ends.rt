@@ -5,8 +5,9 @@ ghost use Rattle.surf_basis.specs.Ends.{AreSignedEnds, HasMarkedEnd, IsBusierEnd
 
 use std::alloc::Global;
 use surf_base::{EdgeId, NoMemory, VertexId};
+use surf_finder::{EdgeSigns, list_marked};
 use surf_mesh::HalfMesh;
-use surf_search::{EdgeSigns, count_signed, lesser_first, list_marked};
+use surf_search::{count_signed, lesser_first};
 
 // Marks the second of two vertices, unless the first is marked.
 fn mark_one(first: VertexId, second: VertexId, marked: &mut [bool])

@@ -8,9 +8,9 @@ ghost use Rattle.surf_surfaces.specs.FewBases.{MeetsAll};
 ghost use Rattle.surf_surfaces.specs.Choice.{Trees, AreChosen, candidates, loops_at};
 ghost use Rattle.surf_tree.specs.Grown.{IsGrown as IsTreeGrown};
 ghost use Rattle.surf_loops.specs.Loops.{AreLoopTables};
-ghost use Rattle.surf_search.specs.Found.{is_among};
-ghost use Rattle.surf_search.specs.Marks.{bits_backwards};
-ghost use Rattle.surf_search.specs.Signing.{AreSigned, signs_of};
+ghost use Rattle.surf_finder.specs.Found.{is_among};
+ghost use Rattle.surf_finder.specs.Marks.{bits_backwards};
+ghost use Rattle.surf_finder.specs.Signing.{AreSigned, signs_of};
 ghost use Rattle.surf_basis.specs.Candidates.{first_head, loop_in, IsFirstPlace};
 ghost use Rattle.surf_basis.specs.Cut.{AreToSearch, IsDividedBy};
 ghost use Rattle.surf_basis.specs.Cycles.{first_of, IsFirstCandidate, IsShortestCycle, AllSeparate};
@@ -23,10 +23,11 @@ use crate::desk::signed_desk;
 use std::alloc::Global;
 use surf_base::{NoMemory, VertexId};
 use surf_choice::Candidate;
+use surf_finder::{EdgeSigns, SignedSurface, scatter};
 use surf_lengths::Lengths;
 use surf_loops::LoopDesk;
 use surf_mesh::HalfMesh;
-use surf_search::{EdgeSigns, SignedSurface, first_among, scatter};
+use surf_search::first_among;
 
 // The first candidate of a desk, if it has one.
 fn first_of(desk: &LoopDesk) -> Option<Candidate>

@@ -6,8 +6,8 @@ use Rattle.surf_caps.proofs.Heights.{asked_ends_meet}
 use Rattle.surf_caps.proofs.Images.{everywhere_meets, meets_fewer, sets_meet}
 use Rattle.surf_caps.proofs.Places.{enough_have_places, full_count_has_places}
 use Rattle.surf_search.proofs.Capped.{within_start, limit_start}
-use Rattle.surf_search.proofs.Climbed.{at_edge}
-use Rattle.surf_search.proofs.Searched.{among_contains}
+use Rattle.surf_finder.proofs.Climbed.{at_edge}
+use Rattle.surf_finder.proofs.Searched.{among_contains}
 use Rattle.surf_search.proofs.Looped.{tells_sizes, tells_walks, tells_long, tells_at, tells_order, signed_of}
 
 -- the signature of an edge is as small as there are left edges

@@ -1,5 +1,5 @@
 -- Lengths that differ from others at edges with a marked end alone, while more vertices are marked.
-use Rattle.surf_search.proofs.Common.{◌≡◌, ℕ, ◌<◌, ◌≤◌, Bool, false, List, length, refl, ap, arith, touches, edge_length, edge_count, sym, ◌∙◌, subst, inl, inr, IsTrue, cases_Bool, false≢true, Mesh, ends, AgreeOff, Link, AreLinks, IsShutAt, KeepsOff, SurfaceTables, is_marked, AreNoShorter, IsAhead, IsBarring}
+use Rattle.surf_search.proofs.Common.{◌≡◌, ℕ, ◌<◌, ◌≤◌, Bool, false, List, length, refl, ap, arith, edge_length, edge_count, sym, ◌∙◌, subst, inl, inr, IsTrue, cases_Bool, false≢true, Mesh, ends, AgreeOff, SurfaceTables, is_marked, AreNoShorter, IsAhead, IsBarring}
 
 -- what isn't in a set isn't in a lesser one
 off_less : (s t : ℕ → Bool) → ((v : ℕ) → IsTrue (s v) → IsTrue (t v)) → (v : ℕ) → t v ≡ false → s v ≡ false
@@ -36,22 +36,6 @@ ahead_on f old new before after h mesh signs given stay off = record {
   off = agree_on f.mesh f.lengths old.lengths new.lengths (is_marked before) (is_marked after) stay h.off
       (subst (λ m. AgreeOff m old.lengths new.lengths (is_marked after)) h.mesh off);
 }
-
--- barring a vertex makes no edge shorter
-pub bar_no_shorter : (base mesh barred : Mesh) (given old new : List ℕ) (rows : List (List Link)) (v : ℕ) → mesh ≡ base →
-    barred ≡ mesh → AreNoShorter base given old → AreLinks mesh old rows → KeepsOff barred v old new → IsShutAt barred v new →
-    AreNoShorter base given new
-bar_no_shorter base mesh barred given old new rows v is same so_far links off shut e e_in =
-    let in_mesh : e < edge_count mesh = subst (λ (m : Mesh). e < edge_count m) (sym is) e_in in
-    let in_barred : e < edge_count barred = subst (λ (m : Mesh). e < edge_count m) (sym same) in_mesh in
-    let before = so_far e e_in in
-    elim (cases_Bool (touches v (ends barred e))) [
-      | inl on ↦
-          let at = shut e in_barred on in
-          let fits = (links.are_lengths e 0 (let n = links.as_many in omega (arith, n, in_mesh))).fits in
-          omega (arith, before, at, fits)
-      | inr out ↦ let at = off.same e in_barred out in omega (arith, before, at)
-    ]
 
 -- a finder that bars more vertices
 pub barring_on : (f scout old new : SurfaceTables) (before after : List Bool) → IsBarring f scout before → old ≡ scout →

@@ -3,8 +3,8 @@ use Rattle.surf_search.proofs.Common.{◌≡◌, ◌≢◌, ℕ, ◌<◌, ◌≤
 use Rattle.surf_caps.proofs.Barring.{barred_loops_come_no_sooner, barred_searches_suffice}
 use Rattle.surf_search.proofs.FirstFound.{IsNoLater, Least, first_before, first_member, first_some, first_stays, least_found, least_of, not_sooner}
 use Rattle.surf_search.proofs.NearFirst.{nothing_null, sooner_not}
-use Rattle.surf_search.proofs.PassedOver.{sought_before}
-use Rattle.surf_search.proofs.Searched.{depends_null, zero_null}
+use Rattle.surf_finder.proofs.PassedOver.{sought_before}
+use Rattle.surf_finder.proofs.Searched.{depends_null, zero_null}
 
 -- what comes no later than a place isn't one before which that is sought
 not_sought : (o : Option Candidate) (p : Place) → IsNoLater o p → is_sought o p ≡ true → ⊥

@@ -3,8 +3,8 @@ use Rattle.surf_search.proofs.Common.{◌≡◌, ℕ, suc, ◌<◌, ◌≤◌, �
 use Rattle.surf_caps.proofs.Barring.{barred_searches_suffice, near_places_need_no_more}
 use Rattle.surf_caps.proofs.Over.{within, depends_within}
 use Rattle.surf_search.proofs.Looped.{tells_long, tells_at, tells_order, tells_chosen, turned, founds_told, signed_of}
-use Rattle.surf_search.proofs.PassedOver.{no_longer, shorter_sooner, all_signed}
-use Rattle.surf_search.proofs.Searched.{loops_found, places_found, no_fewer, of_choice, zero_null, depends_null}
+use Rattle.surf_finder.proofs.PassedOver.{no_longer, shorter_sooner, all_signed}
+use Rattle.surf_finder.proofs.Searched.{loops_found, places_found, no_fewer, of_choice, zero_null, depends_null}
 
 -- ---- what is within a cap
 

@@ -1,6 +1,6 @@
 -- The first of the loops at the vertices of a list.
 use Rattle.surf_search.proofs.Common.{◌≡◌, ◌≢◌, ℕ, suc, ◌<◌, ◌+◌, ◌⊎◌, Bool, true, false, eqb, cond, List, [], ◌∷◌, length, get_or, take, fold, Contains, Option, Some, None, refl, sym, ap, ◌∙◌, subst, arith, inl, inr, eqb-true, IsTrue, AllByRecursion, cases_Bool, cases_eq, or_cases, false≢true, eq-eqb, nat_tests, All-from_recursion, All-contains, Split, IsSplit, Tree, Mesh, edge_count, IsSurface, ArePositive, IsNull, cells_of, class_of, AreShortestTrees, loop_walk, loop_length, no_member, Place, is_no_later, comes_sooner, place_at, with_vertex, null_by_class, no_later-trans, no_later-same, loop_closed, SignTables, Candidate, Signed, earlier, place_of, is_sought, IsFound, AreFoundBy, is_among, earlier_of, first_from, IsFirstOf, IsFirstAmong}
-use Rattle.surf_search.proofs.Searched.{among_more, zero_null}
+use Rattle.surf_finder.proofs.Searched.{among_more, zero_null}
 
 -- ---- the first of a list
 

@@ -1,7 +1,7 @@
 -- Loops that may be left out: each has the class of one that is no later, so that the same are kept.
 use Rattle.surf_search.proofs.Common.{◌≡◌, ℕ, zero, suc, ◌<◌, ◌≤◌, ◌+◌, ◌*◌, ◌^◌, ◌⊎◌, Bool, true, false, leb, leb-true, le-leb, cond, List, [], ◌∷◌, ◌++◌, length, get_or, All, Contains, IsPermutation, refl, sym, ap, ◌∙◌, subst, arith, inl, inr, IsTrue, AllByRecursion, cases_Bool, cases_lt, nat_tests, recursion_from_All, All-from_recursion, All-contains, All-append, All-permutation, Contains-permutation, Contains-append_cases, Contains-append_left, Contains-append_right, Contains-get_or, IsNonDecreasingBy, Sorted, sorted_from_order, order_from_sorted, all_each, merge, greedy_after, numbers, is_nothing, spans, Decides-is_nothing, InSpan, Candidate, Signed, signed_earlier, independent_of, order_of, IsShort, earlier, HasNoLater, precedes, ◌-◌, take, filter, Option, All-take, choice_exists, shortest_trees, Mesh, IsSurface, ArePositive, edge_count, Chosen, SignTables, SurfaceTables, AreFirstFound, AreLongerOr, IsSumOfLength, AreSigned, IsKeptAt, IsWider, place_of, is_sought, is_no_later, sorted_by_number}
-use Rattle.surf_search.specs.declared.told_loops.Ties.{Ties}
-use Rattle.surf_search.specs.declared.told_loops.Ties.TheVariants.{LesserBase}
+use Rattle.surf_finder.specs.declared.told_loops.Ties.{Ties}
+use Rattle.surf_finder.specs.declared.told_loops.Ties.TheVariants.{LesserBase}
 use Rattle.surf_choice.specs.Candidates.{has_next}
 use Rattle.surf_z2.proofs.Span.{head_in}
 use Rattle.surf_z2.proofs.Basics.{in_left, in_right}
@@ -9,7 +9,7 @@ use Rattle.surf_z2.proofs.Greedy.{in_from_spans, spans_from_in}
 use Rattle.std.proofs.lemmas.List.Elements.{All-filter}
 use Rattle.std.proofs.lemmas.List.Sorted.{IsPermutation-refl, IsPermutation-trans, IsPermutation-cons, IsPermutation-middle, IsPermutation-append_right}
 use Rattle.surf_search.proofs.Capped.{found_among, front_has, front_sooner, limit_start, sorted_front}
-use Rattle.surf_search.proofs.Searched.{found_permuted, found_short, found_small}
+use Rattle.surf_finder.proofs.Searched.{found_permuted, found_short, found_small}
 
 -- ---- loops put among others in order
 

@@ -1,8 +1,8 @@
 -- The first of the loops at the vertices of a set stays the first with vertices near one where all loops are longer.
 use Rattle.surf_search.proofs.Common.{◌≡◌, ◌≢◌, ℕ, ◌<◌, ◌≤◌, ◌+◌, ◌*◌, Bool, true, false, List, [], ◌∷◌, Option, Some, sym, ◌∙◌, subst, arith, inl, inr, cases_Bool, cases_eq, false≢true, nat_tests, xor-false, Split, IsSplit, Tree, Mesh, edge_count, IsSurface, ArePositive, parity, IsNull, cells_of, class_of, AreShortestTrees, loop_walk, loop_length, DependsOn, Place, is_no_later, comes_sooner, place_at, AreEnoughOf, choice_exists, null_by_class, shortest_trees, loop_closed, AgreeOff, with_near, near_vertices_need_no_more, Candidate, place_of, is_sought, SignTables, SurfaceTables, IsFirstOf, IsFirstAt, is_marked, AreMarkedNear, IsAhead, IsFirstIn, StaysFirst}
-use Rattle.surf_search.proofs.PassedOver.{sought_before, no_longer, all_near}
+use Rattle.surf_finder.proofs.PassedOver.{sought_before, no_longer, all_near}
 use Rattle.surf_search.proofs.FirstFound.{IsNoLater, least_found, first_fewer}
-use Rattle.surf_search.proofs.Searched.{depends_null, zero_null}
+use Rattle.surf_finder.proofs.Searched.{depends_null, zero_null}
 
 -- what depends on no walks is null
 pub nothing_null : (mesh : Mesh) (walk : List ℕ) → DependsOn mesh [] walk → IsNull mesh walk

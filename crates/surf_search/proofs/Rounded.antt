@@ -4,9 +4,9 @@ use Rattle.surf_search.proofs.Asked.{caps_meet, cut_meets, raised_kept, capped_p
 use Rattle.surf_search.proofs.Capped.{within_start, within_zero, is_beyond, kept_begun, kept_fewer, kept_next, kept_near}
 use Rattle.surf_search.proofs.Capping.{capped_more}
 use Rattle.surf_search.proofs.Looped.{tells_at, tells_long, signed_of}
-use Rattle.surf_search.proofs.PassedOver.{marked_more}
+use Rattle.surf_finder.proofs.PassedOver.{marked_more}
 use Rattle.surf_search.proofs.Placed.{placed_found}
-use Rattle.surf_search.proofs.Searched.{found_short}
+use Rattle.surf_finder.proofs.Searched.{found_short}
 
 -- ---- a round
 

@@ -1,11 +1,6 @@
-pub mod Found
-pub mod Keys
-pub mod Kinds
-pub mod Marks
-pub mod Passing
+pub mod Ahead
+pub mod Degrees
+pub mod Firsts
+pub mod Kept
 pub mod Places
-pub mod Rises
 pub mod Rounds
-pub mod Signing
-pub mod Walks
-pub mod Ways

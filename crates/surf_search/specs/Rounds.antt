@@ -1,6 +1,5 @@
 -- Searches as far as a cap of each vertex: what is sought there, what is kept of it, and how great caps have to be.
-use Rattle.std.specs.Prelude.{ℕ, ◌≡◌, ◌≢◌, ◌<◌, ◌≤◌, ◌+◌, ◌-◌, ◌*◌, ◌^◌, ◌⊎◌, ◌&&◌, ◌||◌, nat_le, min, Bool, false, IsTrue}
-use Rattle.std.specs.Prelude.{List, [], ◌∷◌, All, Contains, length, map, slice_index, slice_index_or, Option, Some, None}
+use Rattle.std.specs.Prelude.{ℕ, ◌≡◌, ◌≢◌, ◌<◌, ◌≤◌, ◌+◌, ◌-◌, ◌*◌, ◌^◌, ◌⊎◌, ◌&&◌, ◌||◌, nat_le, min, Bool, false, IsTrue, List, [], ◌∷◌, All, Contains, length, map, slice_index, slice_index_or, Option, Some, None}
 use Rattle.std.specs.List.Sorted.{IsNonDecreasingBy}
 use Rattle.surf_z2.specs.Order.{IsInOrder, merge}
 use Rattle.surf_z2.specs.Space.{numbers, Independent}
@@ -19,9 +18,10 @@ use Rattle.surf_choice.specs.declared.candidate.Candidate.{Candidate}
 use Rattle.surf_choice.specs.Candidates.{Chosen, IsSumOfLength, independent_of, signed_earlier, signatures}
 use Rattle.surf_choice.specs.Places.{is_sought, limit_of, order_of, stands_before}
 use Rattle.surf_search.specs.declared.caps.Ask.{Ask}
-use Rattle.surf_search.specs.Found.{SurfaceTables, AreFound}
-use Rattle.surf_search.specs.Passing.{AreNoShorter, IsAhead, is_marked}
-use Rattle.surf_search.specs.Signing.{SignTables, AreSignatures}
+use Rattle.surf_finder.specs.Found.{SurfaceTables, AreFound}
+use Rattle.surf_finder.specs.Passing.{AreNoShorter, is_marked}
+use Rattle.surf_search.specs.Ahead.{IsAhead}
+use Rattle.surf_finder.specs.Signing.{SignTables, AreSignatures}
 
 -- ---- what is sought
 

@@ -1,14 +1,14 @@
 //! How far vertices have to be searched for the loops over each edge.
 ghost use Rattle.std.specs.Prelude.{◌≡◌, ◌<◌, All, IfOk, OnOk, IsPermutation, length};
 ghost use Rattle.surf_surfaces.specs.Surface.{edge_count};
-ghost use Rattle.surf_search.specs.Signing.{AreSigned};
+ghost use Rattle.surf_finder.specs.Signing.{AreSigned};
 ghost use Rattle.surf_search.specs.Rounds.{AreAsks, AreCapped, AreNoLess, HasCappedEnd};
 
 use crate::degrees::{count_signed, lesser_first};
-use crate::surface::SignedSurface;
 use std::alloc::Global;
 use surf_base::{EdgeId, NoMemory};
 use surf_choice::Choice;
+use surf_finder::SignedSurface;
 use surf_mesh::HalfMesh;
 
 /// Up to which length loops over an edge have to be found.

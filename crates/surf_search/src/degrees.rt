@@ -2,10 +2,11 @@
 ghost use Rattle.std.specs.Prelude.{◌≡◌, ◌<◌, ◌+◌, ◌^◌, ℕ, length, slice_index, slice_set};
 ghost use Rattle.surf_surfaces.specs.Surface.{edge_count};
 ghost use Rattle.surf_surfaces.specs.Degrees.{AreDegreesTo, degree_in};
-ghost use Rattle.surf_search.specs.Marks.{by_degree, is_signed};
+ghost use Rattle.surf_search.specs.Degrees.{by_degree};
+ghost use Rattle.surf_finder.specs.Marks.{is_signed};
 
-use crate::edge_signs::EdgeSigns;
 use surf_base::{EdgeId, VertexId};
+use surf_finder::EdgeSigns;
 use surf_mesh::HalfMesh;
 
 // Counts one more at a vertex.

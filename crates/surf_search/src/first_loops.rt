@@ -3,17 +3,18 @@ ghost use Rattle.std.specs.Prelude.{◌≡◌, ◌<◌, ℕ, true, false, All, l
 ghost use Rattle.surf_surfaces.specs.Walk.{ArePositive};
 ghost use Rattle.surf_surfaces.specs.Surface.{edge_count, IsSurface};
 ghost use Rattle.surf_firsts.specs.Near.{AgreeOff};
-ghost use Rattle.surf_search.specs.Signing.{AreSigned};
-ghost use Rattle.surf_search.specs.Passing.{is_marked, AreNoShorter, IsFirstIn, StaysFirst};
+ghost use Rattle.surf_finder.specs.Signing.{AreSigned};
+ghost use Rattle.surf_finder.specs.Passing.{is_marked, AreNoShorter};
+ghost use Rattle.surf_search.specs.Firsts.{IsFirstIn, StaysFirst};
 ghost use Rattle.surf_search.specs.Rounds.{IsBarring};
-ghost use Rattle.surf_search.specs.Found.{surface_of, IsFirstAmong};
+ghost use Rattle.surf_finder.specs.Found.{surface_of};
+ghost use Rattle.surf_search.specs.Firsts.{IsFirstAmong};
 
-use crate::finder::Finder;
 use crate::pace::{Pace, spare};
-use crate::surface::SignedSurface;
 use std::alloc::Global;
 use surf_base::{NoMemory, VertexId};
 use surf_choice::Candidate;
+use surf_finder::{Finder, SignedSurface};
 use surf_tree::even_length;
 
 // The first of the loops at the vertices of a list.

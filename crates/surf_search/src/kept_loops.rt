@@ -2,7 +2,7 @@
 ghost use Rattle.std.specs.Prelude.{◌≡◌, ◌<◌, ◌^◌, All, IsPermutation, length, OnOk};
 ghost use Rattle.std.specs.List.Sorted.{IsNonDecreasingBy};
 ghost use Rattle.surf_choice.specs.Places.{order_of};
-ghost use Rattle.surf_search.specs.Found.{IsNext};
+ghost use Rattle.surf_search.specs.Kept.{IsNext};
 
 use surf_base::NoMemory;
 use surf_choice::{Choice, Signed};

@@ -1,10 +1,9 @@
 //! Loops among which a shortest basis of the closed walks of a surface is, and the first of them.
 //!
-//! A [`Finder`] searches from a vertex and finds the loops of edges there, with the least vertex on
-//! a shortest way to them. Of many loops of one class only the first matters. Of all that is found
-//! the shortest independent loops are kept: the loops of the basis have their lengths, and their
-//! least vertices as bases. Once as many are kept as there may be, a search goes no farther than
-//! half the length of the last, since the ends of an edge are within half the length of its loop.
+//! A finder (`surf_finder`) finds the loops at a vertex, with the least vertex on a shortest way to
+//! each. Of all that is found the shortest independent loops are kept: the loops of the basis have
+//! their lengths, and their least vertices as bases. Once as many are kept as there may be, a search
+//! goes no farther than half the length of the last.
 //!
 //! Most vertices need not be searched as far as the longest loop of the basis goes. Where the
 //! signature of an edge is a sum of the first of the loops that are kept, a loop over it that is
@@ -41,48 +40,22 @@
 //! with too. Loops that are sums of kept ones up to the length of the round before are no matter to
 //! that. Where searches tell nothing of the vertices near them they go farther ever more seldom.
 //!
-//! Whether a loop is independent of others is told by its signature, a sum over its edges of
-//! signatures that one base gives for all. Edges with the same signature are of one kind, and ways
-//! with the same sum have one number. So three numbers tell the class of the loop of an edge, and
-//! most loops that a search meets are known by them without a sum (`keys.rt`). `EdgeSigns` has the
-//! kinds alone, so the trees that told the signatures may be let go of.
-//!
 //! The first loop of all is found without rounds (`first_loops.rt`), from vertices of which every
 //! closed walk that isn't null meets one. There too the ways through vertices that are done with are
 //! barred: a loop that goes through one comes no sooner than the first loop that is known.
 #![tactic(auto)]
 
 mod caps;
-mod classes;
 mod costs;
 mod degrees;
-mod edge_signs;
-mod finder;
 mod first_loops;
-mod foremost;
-mod hashes;
 mod kept_loops;
-mod keys;
-mod kinds;
-mod marks;
 mod pace;
 mod probes;
-mod reached;
-mod rises;
 mod round;
 mod rounds;
-mod surface;
-mod told_loops;
-mod walks;
-mod ways;
 
 pub use degrees::{count_signed, lesser_first};
-pub use edge_signs::EdgeSigns;
-pub use finder::Finder;
 pub use first_loops::first_among;
 pub use kept_loops::keep_loops;
-pub use marks::{list_marked, scatter};
 pub use rounds::sufficient_loops;
-pub use surface::SignedSurface;
-pub use told_loops::Ties;
-pub use walks::no_walks;

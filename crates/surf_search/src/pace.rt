@@ -1,7 +1,7 @@
 //! When a search goes beyond what it must, so that it tells of the vertices near its base too.
 ghost use Rattle.std.specs.Prelude.{◌≡◌, ◌≢◌, ◌+◌, ◌-◌, ◌*◌, ◌==◌, min, true, false, if◌then◌else◌};
 ghost use Rattle.std.specs.Option.{option_map};
-ghost use Rattle.surf_search.specs.Passing.{spare_of, widened};
+ghost use Rattle.surf_search.specs.Ahead.{spare_of, widened};
 
 use surf_choice::Candidate;
 

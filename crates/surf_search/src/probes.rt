@@ -2,16 +2,15 @@
 //! that are kept.
 ghost use Rattle.std.specs.Prelude.{◌≡◌, ◌<◌, ◌≤◌, ◌^◌, All, OnOk, length};
 ghost use Rattle.surf_surfaces.specs.Surface.{edge_count};
-ghost use Rattle.surf_search.specs.Found.{surface_of};
+ghost use Rattle.surf_finder.specs.Found.{surface_of};
 ghost use Rattle.surf_search.specs.Rounds.{StaysEnough};
-ghost use Rattle.surf_search.specs.Signing.{AreSigned};
+ghost use Rattle.surf_finder.specs.Signing.{AreSigned};
 
-use crate::finder::Finder;
 use crate::round::{capped, keep_at};
-use crate::surface::SignedSurface;
 use std::alloc::Global;
 use surf_base::{EdgeId, NoMemory, VertexId};
 use surf_choice::{Choice, Signed};
+use surf_finder::{Finder, SignedSurface};
 
 // The length of the last of the first kept loops of which the signature of an edge is a sum.
 fn height_of(surface: &SignedSurface<'_>, choice: &Choice, edge: EdgeId) -> u64

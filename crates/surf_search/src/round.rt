@@ -2,21 +2,18 @@
 ghost use Rattle.std.specs.Prelude.{◌≡◌, ◌≢◌, ◌<◌, ◌≤◌, ◌-◌, ◌^◌, ◌⊎◌, ℕ, true, false, IsTrue, All, IfOk, OnOk, IsPermutation, length, slice_index_or, slice_set};
 ghost use Rattle.surf_surfaces.specs.Surface.{edge_count};
 ghost use Rattle.surf_choice.specs.Places.{place_of, is_sought};
-ghost use Rattle.surf_search.specs.Found.{surface_of, AreFirstFound};
-ghost use Rattle.surf_search.specs.declared.told_loops.Ties.TheVariants.{LesserBase};
-ghost use Rattle.surf_search.specs.Passing.{is_marked};
+ghost use Rattle.surf_finder.specs.Found.{surface_of, AreFirstFound};
+ghost use Rattle.surf_finder.specs.declared.told_loops.Ties.TheVariants.{LesserBase};
+ghost use Rattle.surf_finder.specs.Passing.{is_marked};
 ghost use Rattle.surf_search.specs.Rounds.{AreDone, AreFalling, AreKeptUpTo, AreLongerOr, AreNoLess, AreRising, IsBarring, IsCapped, IsKeptAt, KeepsInRound, cap_at, fall_order, in_caps, in_round, IsWider};
-ghost use Rattle.surf_search.specs.Signing.{AreSigned};
+ghost use Rattle.surf_finder.specs.Signing.{AreSigned};
 
-use crate::finder::Finder;
 use crate::kept_loops::sort_loops;
 use crate::pace::{Pace, spare};
-use crate::reached::is_sought;
-use crate::surface::SignedSurface;
-use crate::told_loops::Ties;
 use std::alloc::Global;
 use surf_base::{EdgeId, NoMemory, VertexId};
 use surf_choice::{Candidate, Choice, Signed};
+use surf_finder::{Finder, SignedSurface, Ties, is_sought};
 use surf_mesh::HalfMesh;
 
 // A vertex with more edges than this has many.

@@ -3,22 +3,21 @@ ghost use Rattle.std.specs.Prelude.{◌≡◌, ◌<◌, ◌≤◌, ◌^◌, ◌+
 ghost use Rattle.surf_surfaces.specs.Homology.{IsLoopCount};
 ghost use Rattle.surf_surfaces.specs.Surface.{edge_count};
 ghost use Rattle.surf_surfaces.specs.FewBases.{MeetsAll};
-ghost use Rattle.surf_search.specs.Found.{surface_of, is_among};
+ghost use Rattle.surf_finder.specs.Found.{surface_of, is_among};
 ghost use Rattle.surf_search.specs.Places.{HavePlacesOfBasis};
 ghost use Rattle.surf_search.specs.Rounds.{AreCapped, AreKeptUpTo, AreNoLess, AreRaisedTo, cap_at, in_caps, is_limit_below, most_at_first};
 ghost use Rattle.surf_choice.specs.Places.{limit_of};
-ghost use Rattle.surf_search.specs.Signing.{AreSigned};
+ghost use Rattle.surf_finder.specs.Signing.{AreSigned};
 ghost use Rattle.surf_base.specs.declared.limits.TheConstants.{MAX_LOOPS};
 
 use crate::caps::raise_caps;
 use crate::costs::{Costs, is_cut_cheaper};
-use crate::finder::Finder;
 use crate::probes::probe_all;
 use crate::round::{has_many_edges, keep_at, search_rising};
-use crate::surface::SignedSurface;
 use std::alloc::Global;
 use surf_base::{EdgeId, NoMemory, VertexId};
 use surf_choice::Choice;
+use surf_finder::{Finder, SignedSurface};
 use surf_mesh::HalfMesh;
 use surf_tree::even_length;
 

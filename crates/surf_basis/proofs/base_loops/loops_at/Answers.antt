@@ -1,6 +1,6 @@
 use Rattle.surf_basis.proofs.Common.{based_at, ◌≡◌, ◌<◌, ◌^◌, List, map, All, Some, sym, ap, ◌∙◌, subst, on_ok_weaker, Candidate, Signed, Chosen, IsNext, AreSigned}
 use Rattle.surf_basis.proofs.Based.{based_small, offered_at}
-use Rattle.surf_search.specs.declared.told_loops.Ties.TheVariants.{LesserEdge}
+use Rattle.surf_finder.specs.declared.told_loops.Ties.TheVariants.{LesserEdge}
 use Rattle.surf_search.proofs.LeftOut.{first_small}
 use Rattle.surf_basis.proofs.base_loops.loops_at.Goals as goal
 

@@ -1,7 +1,7 @@
 use Rattle.surf_basis.proofs.Common.{ℕ, ◌≡◌, ◌≢◌, ◌<◌, true, false, slice_index, sym, ap, ◌∙◌, subst, arith, inl, inr, ◌⊎◌, slice_index_or, cases_lt, ends, edge_count, by_degree, ends_inside, either_below}
 use Rattle.surf_basis.proofs.Ended.{end_stays, either_marked}
 use Rattle.surf_search.proofs.Counted.{as_read_or_turned}
-use Rattle.surf_search.proofs.Signed.{signed_none, signed_some}
+use Rattle.surf_finder.proofs.Signed.{signed_none, signed_some}
 use Rattle.surf_basis.proofs.ends.mark_ends.Goals as goal
 use Rattle.surf_basis.proofs.ends.mark_ends.Goals.{then-is_signed, else-is_signed}
 

@@ -1,7 +1,7 @@
 use Rattle.surf_search.proofs.Common.{◌≡◌, ◌<◌, ◌^◌, All, List, min, slice_index, inl, inr, sym, ap, ◌∙◌, subst, arith, cases_eq, nat_tests, edge_count, All-push, IsSumOfLength, Ask, IsAsked}
 use Rattle.surf_search.proofs.Asked.{sign_small}
 use Rattle.surf_search.proofs.Capping.{asks_same, asks_more}
-use Rattle.surf_search.proofs.Signed.{signed_none, signs_long}
+use Rattle.surf_finder.proofs.Signed.{signed_none, signs_long}
 use Rattle.surf_search.proofs.caps.list_asks.Goals as goal
 use Rattle.surf_search.proofs.caps.list_asks.Goals.{then-is_signed+in_ok-push, else-is_signed}
 

@@ -1,5 +1,5 @@
 use Rattle.std.proofs.Common.{slice_index, arith}
-use Rattle.surf_search.proofs.Marked.{ends_inside, either_below}
+use Rattle.surf_finder.proofs.Marked.{ends_inside, either_below}
 use Rattle.surf_search.proofs.Counted.{as_read_or_turned}
 use Rattle.surf_search.proofs.Capping.{raised_at_end}
 use Rattle.surf_search.proofs.caps.raise.Goals as goal

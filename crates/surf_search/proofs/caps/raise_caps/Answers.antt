@@ -1,7 +1,7 @@
 use Rattle.surf_search.proofs.Common.{◌≡◌, ◌<◌, List, All, sym, ◌∙◌, subst, arith, All-permutation, edge_count, Ask, AreAsks, HasCappedEnd}
 use Rattle.surf_search.proofs.Capping.{asks_capped}
-use Rattle.surf_search.proofs.Signed.{signs_long}
-use Rattle.surf_search.proofs.Marked.{written_back}
+use Rattle.surf_finder.proofs.Signed.{signs_long}
+use Rattle.surf_finder.proofs.Marked.{written_back}
 use Rattle.surf_search.proofs.caps.raise_caps.Goals as goal
 
 pub count_signed-requires-clause-table : goal.count_signed-requires-clause-table

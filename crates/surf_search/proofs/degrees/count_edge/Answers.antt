@@ -1,6 +1,6 @@
 use Rattle.surf_search.proofs.Common.{refl, sym, ◌∙◌, arith, degree_few, degrees_none, is_signed}
-use Rattle.surf_search.proofs.Marked.{ends_inside}
-use Rattle.surf_search.proofs.Signed.{signed_none, signed_some}
+use Rattle.surf_finder.proofs.Marked.{ends_inside}
+use Rattle.surf_finder.proofs.Signed.{signed_none, signed_some}
 use Rattle.surf_search.proofs.Counted.{degrees_raised, ends_apart, raised}
 use Rattle.surf_search.proofs.degrees.count_edge.Goals as goal
 

@@ -1,5 +1,5 @@
 use Rattle.surf_search.proofs.Common.{◌<◌, All, sym, subst, IfOk, IsSurface, ArePositive, lengths_positive, SurfaceTables, IsFirstAmong}
-use Rattle.surf_search.proofs.Signed.{signs_long}
+use Rattle.surf_finder.proofs.Signed.{signs_long}
 use Rattle.surf_search.proofs.first_loops.first_among.Goals as goal
 
 pub make-requires-clause-signatures : goal.make-requires-clause-signatures

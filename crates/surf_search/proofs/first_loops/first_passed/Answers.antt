@@ -1,6 +1,6 @@
 use Rattle.surf_search.proofs.Common.{◌≡◌, ◌<◌, ◌+◌, ◌++◌, ℕ, Bool, List, length, take, drop, sym, ap, ◌∙◌, subst, arith, inl, inr, IsTrue, slice_index, cases_lt, get_or_default, shortest_trees, surface_of, is_among, is_marked, IsBarring, IsFirstIn}
-use Rattle.surf_search.proofs.Marked.{written_back}
-use Rattle.surf_search.proofs.PassedOver.{among_marked}
+use Rattle.surf_finder.proofs.Marked.{written_back}
+use Rattle.surf_finder.proofs.PassedOver.{among_marked}
 use Rattle.surf_search.proofs.FirstFound.{first_fewer}
 use Rattle.surf_search.proofs.first_loops.first_passed.Goals as goal
 

@@ -1,6 +1,6 @@
 use Rattle.surf_search.proofs.Common.{◌<◌, ◌+◌, ◌*◌, ◌-◌, ◌/◌, ℕ, Option, Some, sym, subst, arith, Candidate, SurfaceTables, IsFirstAt, AreMarkedNear, StaysFirst}
 use Rattle.surf_search.proofs.NearFirst.{first_scouted}
-use Rattle.surf_search.proofs.PassedOver.{base_marked}
+use Rattle.surf_finder.proofs.PassedOver.{base_marked}
 use Rattle.surf_search.proofs.first_loops.scout_first.Goals as goal
 
 pub returns-clause-first : goal.returns-clause-first

@@ -2,7 +2,7 @@ use Rattle.surf_search.proofs.Common.{ℕ, Bool, List, refl, sym, ap, ◌∙◌,
 use Rattle.surf_search.proofs.Barred.{barring_on}
 use Rattle.surf_search.proofs.BarredFirst.{first_behind}
 use Rattle.surf_search.proofs.NearFirst.{ahead_first_in}
-use Rattle.surf_search.proofs.PassedOver.{marked_vertex}
+use Rattle.surf_finder.proofs.PassedOver.{marked_vertex}
 use Rattle.surf_search.proofs.FirstFound.{first_fewer}
 use Rattle.surf_search.proofs.Rounded.{barring_is}
 use Rattle.surf_search.proofs.first_loops.visit_first.Goals as goal

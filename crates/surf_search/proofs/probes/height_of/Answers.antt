@@ -1,6 +1,6 @@
 use Rattle.surf_search.proofs.Common.{◌<◌, ◌^◌, sym, subst, arith}
 use Rattle.surf_search.proofs.Asked.{sign_small}
-use Rattle.surf_search.proofs.Signed.{signs_long}
+use Rattle.surf_finder.proofs.Signed.{signs_long}
 use Rattle.surf_search.proofs.probes.height_of.Goals as goal
 
 pub signature-signature-requires : goal.signature-signature-requires

@@ -1,5 +1,5 @@
 use Rattle.surf_search.proofs.Common.{◌<◌, ◌∙◌, sym, subst, SurfaceTables, StaysEnough}
-use Rattle.surf_search.proofs.Marked.{ends_inside}
+use Rattle.surf_finder.proofs.Marked.{ends_inside}
 use Rattle.surf_search.proofs.probes.probe.Goals as goal
 
 pub search_to-requires-clause-base : goal.search_to-requires-clause-base

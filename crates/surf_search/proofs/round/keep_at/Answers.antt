@@ -1,8 +1,8 @@
 use Rattle.surf_search.proofs.Common.{◌≡◌, ◌<◌, ◌≤◌, ◌^◌, ◌-◌, ℕ, All, List, length, take, get_or, false, sym, ap, ◌∙◌, subst, arith, on_ok_weaker, IsTrue, IsPermutation, All-take, Signed, independent_of, signed_earlier, place_of, is_sought, AreFirstFound}
 use Rattle.surf_z2.specs.Order.{merge}
-use Rattle.surf_search.specs.declared.told_loops.Ties.TheVariants.{LesserBase}
+use Rattle.surf_finder.specs.declared.told_loops.Ties.TheVariants.{LesserBase}
 use Rattle.surf_search.proofs.LeftOut.{first_kept, first_permuted, first_small}
-use Rattle.surf_search.proofs.Marked.{written_back}
+use Rattle.surf_finder.proofs.Marked.{written_back}
 use Rattle.surf_search.proofs.round.keep_at.Goals as goal
 
 pub keep-requires : goal.keep-requires

@@ -1,6 +1,6 @@
 use Rattle.surf_search.proofs.Common.{◌≡◌, ℕ, ◌<◌, ◌++◌, ◌∷◌, [], List, All, length, length-append, sym, ap, ◌∙◌, subst, arith, All-permutation, All-push, AreFalling, AreRising}
 use Rattle.surf_search.proofs.Capping.{rising_same, rising_more, rising_permuted}
-use Rattle.surf_search.proofs.Marked.{written_back}
+use Rattle.surf_finder.proofs.Marked.{written_back}
 use Rattle.surf_search.proofs.round.list_rising.Goals as goal
 use Rattle.surf_search.proofs.round.list_rising.Goals.{then-far-cap+in_ok-push, else-far-cap}
 

@@ -1,9 +1,9 @@
 use Rattle.surf_search.proofs.Common.{◌≡◌, ◌≢◌, ◌++◌, ◌<◌, ◌≤◌, ◌/◌, ◌^◌, ℕ, All, Bool, List, Option, length, sym, ap, ◌∙◌, subst, arith, ArePositive, IsTrue, Candidate, Signed, limit_of, SurfaceTables, AreFirstFound, surface_of, AreMarkedNear, is_marked, spare_of, AreLongerOr, IsBarring, IsCapped, IsKeptAt, KeepsInRound, AreSigned}
 use Rattle.surf_search.proofs.Barred.{barring_on}
-use Rattle.surf_search.specs.declared.told_loops.Ties.TheVariants.{LesserBase}
+use Rattle.surf_finder.specs.declared.told_loops.Ties.TheVariants.{LesserBase}
 use Rattle.surf_search.proofs.LeftOut.{first_small, longer_left}
-use Rattle.surf_search.proofs.Marked.{written_back}
-use Rattle.surf_search.proofs.PassedOver.{base_marked}
+use Rattle.surf_finder.proofs.Marked.{written_back}
+use Rattle.surf_finder.proofs.PassedOver.{base_marked}
 use Rattle.surf_search.proofs.Rounded.{barring_is, searched_marked, searched_near}
 use Rattle.surf_search.proofs.round.search.Goals as goal
 

@@ -1,6 +1,6 @@
 use Rattle.surf_search.proofs.Common.{◌∙◌, refl, IsBarring, ◌≤◌, ℕ, All, Bool, List, sym, subst, inl, inr, arith, All-contains, on_ok_weaker, IsTrue, AreFalling, lengths_positive, surface_of, is_marked, AreKeptUpTo, cap_at, in_caps, in_round}
 use Rattle.std.specs.Prelude.{OnOk}
-use Rattle.surf_search.proofs.PassedOver.{none_marked}
+use Rattle.surf_finder.proofs.PassedOver.{none_marked}
 use Rattle.surf_search.proofs.Rounded.{round_begun, unbarred_is}
 use Rattle.surf_search.proofs.round.search_rising.Goals as goal
 

@@ -1,5 +1,5 @@
 use Rattle.surf_search.proofs.Common.{ℕ, List, length, sym, ap, ◌∙◌, subst, arith, AreCapped}
-use Rattle.surf_search.proofs.Marked.{written_back}
+use Rattle.surf_finder.proofs.Marked.{written_back}
 use Rattle.surf_search.proofs.rounds.raised_caps.Goals as goal
 
 pub returns-clause-capped : goal.returns-clause-capped

@@ -1,6 +1,6 @@
 use Rattle.surf_search.proofs.Common.{◌≡◌, ℕ, List, replicate, sym, ap, ◌∙◌, subst, arith, Chosen, AreKeptUpTo, StaysEnough, cap_at, in_caps, SurfaceTables, surface_of}
 use Rattle.surf_search.proofs.Capping.{zero_caps}
-use Rattle.surf_search.proofs.Marked.{written_back}
+use Rattle.surf_finder.proofs.Marked.{written_back}
 use Rattle.surf_search.proofs.Rounded.{begun_none}
 use Rattle.surf_search.proofs.rounds.sufficient_loops.Goals as goal
 

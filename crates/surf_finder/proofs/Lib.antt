@@ -1,0 +1,16 @@
+pub mod Common
+pub mod Barred
+pub mod Climbed
+pub mod Firsts
+pub mod FoundLoops
+pub mod Keyed
+pub mod Kinded
+pub mod Marked
+pub mod Numbered
+pub mod Passed
+pub mod PassedOver
+pub mod Rising
+pub mod Searched
+pub mod Signed
+pub mod Told
+pub mod Walked

@@ -1,0 +1,10 @@
+pub mod Found
+pub mod Keys
+pub mod Kinds
+pub mod Marks
+pub mod Passing
+pub mod Places
+pub mod Rises
+pub mod Signing
+pub mod Walks
+pub mod Ways

@@ -1,5 +1,0 @@
-use Rattle.surf_search.specs.Walks.{AreWritten}
-use Rattle.surf_search.proofs.walks.write_walks.Given as goal
-
-abbrev pub invariant-loop-k : goal.invariant-loop-k
-invariant-loop-k l = AreWritten l.mesh l.links.lengths l.kept l.desk.base l.k l.fn.walks l.walks
