@@ -4,7 +4,7 @@ use Rattle.std.proofs.lemmas.Fmt.{decimal_digit}
 use Rattle.surf_cert.specs.Lines.{numbers_of}
 use Rattle.surf_cert.proofs.WordLines.{spaced, line_of, AllWords, line_again}
 
-small : (n : ℕ) → IsNumber n → n < 2 ^ 64
+pub small : (n : ℕ) → IsNumber n → n < 2 ^ 64
 small n fits = omega (arith, fits)
 
 -- a number of a text is read
@@ -22,7 +22,7 @@ no_dash n lt = elim (cases_Bool (bytes_eq (decimal n) (codes "-"))) [
   | inr other ↦ other
 ]
 
-word : (n : ℕ) → IsNumber n → IsWord (decimal n)
+pub word : (n : ℕ) → IsNumber n → IsWord (decimal n)
 word n fits = word_decimal n (small n fits)
 
 dash : IsWord (codes "-")
@@ -33,7 +33,7 @@ abbrev pub Reads : {A : Type 0} → (List (List ℕ) → Option A) → List ℕ 
 Reads form line x = (n : ℕ) (rest : List ℕ) → next_of form (lines_from n (line ++ rest)) ≡ Ok (x, lines_from (n + 1) rest)
 
 -- the same where the line is words
-reads_words : {A : Type 0} (form : List (List ℕ) → Option A) (line w : List ℕ) (ws : List (List ℕ)) (x : A) → IsWord w
+pub reads_words : {A : Type 0} (form : List (List ℕ) → Option A) (line w : List ℕ) (ws : List (List ℕ)) (x : A) → IsWord w
     → AllWords ws → form (w ∷ ws) ≡ Some x → line ≡ line_of w ws ++ 10 ∷ [] → Reads form line x
 reads_words form line w ws x first words good is n rest =
     let text : line ++ rest ≡ line_of w ws ++ 10 ∷ rest = ap (λ (l : List ℕ). l ++ rest) is ∙ append_assoc (line_of w ws) (10 ∷ []) rest in

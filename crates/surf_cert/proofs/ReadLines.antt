@@ -4,7 +4,7 @@ use Rattle.surf_cert.specs.Lines.{pair_of, numbers_of}
 use Rattle.surf_cert.proofs.Numbers.{onto_numbers}
 
 -- what passes a test has what the test shows
-filter_fits : {A : Type 0} (test : A → Bool) (P Q : A → Type 0) → ((x : A) → test x ≡ true → P x → Q x) → (o : Option A)
+pub filter_fits : {A : Type 0} (test : A → Bool) (P Q : A → Type 0) → ((x : A) → test x ≡ true → P x → Q x) → (o : Option A)
     → IfSome o P → IfSome (option_filter test o) Q
 filter_fits test P Q then None fits = tt
 filter_fits test P Q then (Some x) fits = elim (cases_Bool (test x)) [ inl passes ↦ rw passes (then x passes fits) | inr other ↦ rw other tt ]
@@ -23,7 +23,7 @@ second : (p q : Bool) → (p && q) ≡ true → q ≡ true
 second true q e = e
 second false q e = absurd cc
 
-whole_fits : (token : List ℕ) → IfSome (whole token) (λ n. n < 2 ^ 64)
+pub whole_fits : (token : List ℕ) → IfSome (whole token) (λ n. n < 2 ^ 64)
 whole_fits token = elim (cases_Bool (is_nonempty token && list_all is_ascii_digit token && nat_lt (value_of token) (2 ^ 64))) [
   | inl is ↦ rw is (ltb-true (value_of token) (2 ^ 64) (second (is_nonempty token && list_all is_ascii_digit token) (nat_lt (value_of token) (2 ^ 64)) is))
   | inr other ↦ rw other tt
@@ -87,7 +87,7 @@ pub behind_fits : (before : Option (ℕ × ℕ)) (tokens : List (List ℕ))
 behind_fits before tokens =
     filter_fits (is_next before) IsPair (λ p. IsPair p × (is_next before p ≡ true)) (λ p next fits. (fits, next)) (pair_of tokens) (pair_fits tokens)
 
-all_fit : (tokens : List (List ℕ)) → IfSome (numbers_of tokens) (λ ns. (length ns ≡ length tokens) × All IsNumber ns)
+pub all_fit : (tokens : List (List ℕ)) → IfSome (numbers_of tokens) (λ ns. (length ns ≡ length tokens) × All IsNumber ns)
 unfolding numbers_of
 all_fit [] = (refl, All-nil IsNumber)
 all_fit (token ∷ tokens) = at (cert_number token) (numbers_of tokens) (number_fits token) (all_fit tokens)

@@ -8,12 +8,12 @@ use Rattle.surf_cert.proofs.ReadLines.{IsRow, row_fits, face_fits, behind_fits, 
 
 -- lines
 
-bind_fits : {A B : Type 0} (read : Result A CertText) (f : A → Result B CertText) (P : A → Type 0) (Q : B → Type 0)
+pub bind_fits : {A B : Type 0} (read : Result A CertText) (f : A → Result B CertText) (P : A → Type 0) (Q : B → Type 0)
     → IfOk read P → ((x : A) → P x → IfOk (f x) Q) → IfOk (read >>= f) Q
 bind_fits (Ok x) f P Q fits then = then x fits
 bind_fits (Err e) f P Q fits then = tt
 
-next_fits : {A : Type 0} (form : List (List ℕ) → Option A) (Good : A → Type 0)
+pub next_fits : {A : Type 0} (form : List (List ℕ) → Option A) (Good : A → Type 0)
     → ((tokens : List (List ℕ)) → IfSome (form tokens) Good) → (lines : List TextLine)
     → IfOk (next_of form lines) (λ x. Good x.0)
 unfolding next_of
@@ -24,7 +24,7 @@ next_fits {A} form Good fits (line ∷ lines) = at (form (tokens_of line.bytes))
     at None good = tt
     at (Some x) good = good
 
-AreRows : {A : Type 0} → (A → Type 0) → ℕ → List A × List TextLine → Type 0
+unfoldable pub AreRows : {A : Type 0} → (A → Type 0) → ℕ → List A × List TextLine → Type 0
 AreRows Good n read = (length read.0 ≡ n) × All Good read.0
 
 onto_fits : {A : Type 0} (Good : A → Type 0) (n : ℕ) (x : A) (read : Result (List A × List TextLine) CertText) → Good x
@@ -33,7 +33,7 @@ unfolding AreRows
 onto_fits Good n x (Ok rows) good fits = (ap suc fits.0, All-cons Good x rows.0 good fits.1)
 onto_fits Good n x (Err e) good fits = tt
 
-rows_fit : {A : Type 0} (form : List (List ℕ) → Option A) (Good : A → Type 0)
+pub rows_fit : {A : Type 0} (form : List (List ℕ) → Option A) (Good : A → Type 0)
     → ((tokens : List (List ℕ)) → IfSome (form tokens) Good) → (n : ℕ) (lines : List TextLine)
     → IfOk (rows_of form n lines) (AreRows Good n)
 unfolding rows_of AreRows
@@ -66,7 +66,7 @@ behind_all : (p q : ℕ × ℕ) (ps : List (ℕ × ℕ)) → pair_lt p q ≡ tru
 behind_all p q [] lt follow = All-cons (λ r. pair_lt p r ≡ true) q [] lt (All-nil (λ r. pair_lt p r ≡ true))
 behind_all p q (r ∷ ps) lt follow = All-cons (λ r. pair_lt p r ≡ true) q (r ∷ ps) lt (behind_all p r ps (pair_lt-trans p q r lt follow.0) follow.1)
 
-rise : (before : Option (ℕ × ℕ)) (ps : List (ℕ × ℕ)) → Follow before ps → AllPairs (λ p q. pair_lt p q ≡ true) ps
+pub rise : (before : Option (ℕ × ℕ)) (ps : List (ℕ × ℕ)) → Follow before ps → AllPairs (λ p q. pair_lt p q ≡ true) ps
 rise before [] follow = λ i j d lt within. absurd (omega (arith, within))
 rise before (p ∷ []) follow = λ i j d lt within. absurd (omega (arith, lt, within))
 rise before (p ∷ q ∷ ps) follow = AllPairs-cons (λ p q. pair_lt p q ≡ true) p (q ∷ ps) (behind_all p q ps follow.1.0 follow.1.1) (rise (Some p) (q ∷ ps) follow.1)
@@ -175,13 +175,13 @@ left_fits k lines =
     at (Ok ps) fits = record { count = fits.count; pairs = fits.pairs; rises = rise None ps.0 fits.follow }
     at (Err e) fits = tt
 
-cycles_fit : (k : ℕ) (lines : List TextLine) → IfOk (cycles_of k lines) (λ x. (length x.0 ≡ k) × All CycleFits x.0)
+pub cycles_fit : (k : ℕ) (lines : List TextLine) → IfOk (cycles_of k lines) (λ x. (length x.0 ≡ k) × All CycleFits x.0)
 unfolding cycles_of AreRows
 cycles_fit k lines =
     bind_fits (next_of (the_word (codes "cycles")) lines) (λ word. rows_of cycle_of k word.1) (λ word. Unit {0}) (λ x. (length x.0 ≡ k) × All CycleFits x.0) (next_fits (the_word (codes "cycles")) (λ word. Unit {0}) (word_fits (codes "cycles")) lines)
     (λ word good. rows_fit cycle_of CycleFits cycle_fits k word.1)
 
-ended_fits : {A : Type 0} (x : A) (lines : List TextLine) (P : A → Type 0) → P x → IfOk (ended Trailing lines x) P
+pub ended_fits : {A : Type 0} (x : A) (lines : List TextLine) (P : A → Type 0) → P x → IfOk (ended Trailing lines x) P
 ended_fits x [] P fits = fits
 ended_fits x (line ∷ lines) P fits = tt
 

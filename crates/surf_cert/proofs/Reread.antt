@@ -10,7 +10,7 @@ abbrev pub ReadsPart : {A : Type 0} → (List TextLine → Result (A × List Tex
 ReadsPart read text x = (n : ℕ) (rest : List ℕ) → (m : ℕ) × (read (lines_from n (text ++ rest)) ≡ Ok (x, lines_from m rest))
 
 -- rows of one form
-rows_again : {A : Type 0} (form : List (List ℕ) → Option A) (line : A → List ℕ) (Good : A → Type 0)
+pub rows_again : {A : Type 0} (form : List (List ℕ) → Option A) (line : A → List ℕ) (Good : A → Type 0)
     → ((x : A) → Good x → Reads form (line x) x) → (rows : List A) → All Good rows
     → ReadsPart (rows_of form (length rows)) (flat_map line rows) rows
 unfolding rows_of
@@ -40,7 +40,7 @@ follow_on : (p : ℕ × ℕ) (ps : List (ℕ × ℕ)) → AllPairs (λ p q. pair
 follow_on p [] rises = tt
 follow_on p (q ∷ ps) rises = (rises 0 1 (0, 0) (omega arith) (omega arith), follow_on q ps (λ i j d lt within. rises (suc i) (suc j) d (omega arith) (omega arith)))
 
-follow_all : (ps : List (ℕ × ℕ)) → AllPairs (λ p q. pair_lt p q ≡ true) ps → Follow None ps
+pub follow_all : (ps : List (ℕ × ℕ)) → AllPairs (λ p q. pair_lt p q ≡ true) ps → Follow None ps
 follow_all [] rises = tt
 follow_all (p ∷ ps) rises = (refl, follow_on p ps rises)
 
@@ -107,7 +107,7 @@ left_part k left fits n rest =
     let is : pairs_of None k (lines_from (n + 1) (lines ++ rest)) ≡ Ok (left, lines_from read.0 rest) = subst (λ (k : ℕ). pairs_of None k (lines_from (n + 1) (lines ++ rest)) ≡ Ok (left, lines_from read.0 rest)) fits.count read.1 in
     (read.0, ap (λ (t : List ℕ). left_of k (lines_from n t)) (append_assoc (codes "left\n") lines rest) ∙ rw (left_again n (lines ++ rest), is) refl)
 
-cycles_part : (k : ℕ) (cycles : List (List ℕ)) → length cycles ≡ k → All CycleFits cycles
+pub cycles_part : (k : ℕ) (cycles : List (List ℕ)) → length cycles ≡ k → All CycleFits cycles
     → ReadsPart (cycles_of k) (cycles_text cycles) cycles
 unfolding cycles_of
 cycles_part k cycles count fits n rest =

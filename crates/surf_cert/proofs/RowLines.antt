@@ -9,7 +9,7 @@ abbrev pub with_rows : {A S : Type 0} → (S → A → S) → S → Result (List
 with_rows push s (Ok rest) = Ok (fold push s rest.0, rest.1)
 with_rows push s (Err e) = Err e
 
-onto_fold : {A S : Type 0} (push : S → A → S) (s : S) (x : A) (read : Result (List A × List TextLine) CertText)
+pub onto_fold : {A S : Type 0} (push : S → A → S) (s : S) (x : A) (read : Result (List A × List TextLine) CertText)
     → with_rows push s (onto_rows x read) ≡ with_rows push (push s x) read
 onto_fold push s x (Ok rest) = refl
 onto_fold push s x (Err e) = refl

@@ -3,6 +3,7 @@ ghost use Rattle.std.specs.Prelude.{◌≡◌};
 ghost use Rattle.surf_cert.specs.declared.fault.CertText.TheVariants.{Memory};
 
 use std::alloc::{AllocError, AllocFailed};
+use surf_base::NoMemory;
 
 /// The first fault of a text. Lines are numbered from 1, and 0 stands for a line that isn't there.
 #[derive(Clone, Copy, Debug, PartialEq, Eq)]
@@ -17,6 +18,14 @@ pub enum CertText {
     Trailing { line: u32 },
     /// There was no memory.
     Memory,
+}
+
+impl From<NoMemory> for CertText {
+    ghost from_gives = { λ _ e. e ≡ Memory };
+
+    fn from(_: NoMemory) -> CertText {
+        CertText::Memory
+    }
 }
 
 impl From<AllocError> for CertText {

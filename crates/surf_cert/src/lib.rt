@@ -14,7 +14,8 @@
 //! least one vertex. A line has exactly these tokens. A distance is any whole number of 64 bits,
 //! all other numbers have 32. Lines, tokens and comments are those of `surf_text`. What a text is,
 //! or its first fault, is one definition over the list of its lines, and [`read_cert`] answers it,
-//! fault by fault. What is written is read as what it was written of.
+//! fault by fault. What is written is read as what it was written of. Lines that other certificates
+//! have too are read and written by functions of their own: counts, words, cycles, the end.
 #![tactic(auto)]
 
 mod blank;
@@ -28,6 +29,9 @@ mod write;
 
 pub use fault::CertText;
 pub use front::take_cert;
-pub use read::read_cert;
+pub use line::{Counts, read_number};
+pub use next::{next_counts, next_word};
+pub use read::{read_cert, read_end};
+pub use sections::read_cycles;
 pub use surf_records::{BasisCert, Cert, DualRows, LoopCert, TreeRows};
-pub use write::{write_basis_cert, write_loop_cert};
+pub use write::{write_basis_cert, write_cycles, write_loop_cert};

@@ -10,14 +10,14 @@ use surf_text::{Tokens, read_whole};
 
 /// How many vertices, faces and left edges a certificate is for.
 #[derive(Clone, Copy, Debug)]
-pub(crate) struct Counts {
-    pub(crate) vertices: u32,
-    pub(crate) faces: u32,
-    pub(crate) left: u32,
+pub struct Counts {
+    pub vertices: u32,
+    pub faces: u32,
+    pub left: u32,
 }
 
-/// The number that a token is.
-pub(crate) fn read_number(token: &[u8]) -> Option<u32>
+/// The number that a token is, if it is whole and at most 4,294,967,295.
+pub fn read_number(token: &[u8]) -> Option<u32>
     ensures number { result ≡ cert_number token.now }
 {
     match read_whole(token) {

@@ -18,9 +18,10 @@ use surf_base::VertexId;
 use surf_mesh::Walk;
 use surf_text::{Line, Lines, Tokens};
 
-/// The next line, which is exactly a word.
+/// The next line, which is exactly a word. Refuses with `Early` where there is none, and with
+/// `Form` where it has another form.
 #[tactic(auto, unfolding(crate::specs::Grammar::next_of))]
-pub(crate) fn next_word(lines: &mut Lines<'_>, word: &[u8]) -> Result<(), CertText>
+pub fn next_word(lines: &mut Lines<'_>, word: &[u8]) -> Result<(), CertText>
     ensures word { Gives CertText.Memory (λ x. (x, lines.new)) result
         (next_of (the_word word.now) lines.old) }
 {
@@ -32,9 +33,9 @@ pub(crate) fn next_word(lines: &mut Lines<'_>, word: &[u8]) -> Result<(), CertTe
     }
 }
 
-/// The next line, which gives the counts.
+/// The next line, which gives the counts. Refuses as [`next_word`] does.
 #[tactic(auto, unfolding(crate::specs::Grammar::next_of))]
-pub(crate) fn next_counts(lines: &mut Lines<'_>) -> Result<Counts, CertText>
+pub fn next_counts(lines: &mut Lines<'_>) -> Result<Counts, CertText>
     ensures counts { Gives CertText.Memory (λ x. (x, lines.new)) result
         (next_of counts_of lines.old) }
 {

@@ -13,8 +13,8 @@ use std::alloc::Global;
 use surf_records::{BasisCert, Cert, LoopCert};
 use surf_text::Lines;
 
-/// No line stands behind.
-pub(crate) fn read_end(lines: &mut Lines<'_>) -> Result<(), CertText>
+/// No line stands behind. Refuses with `Trailing` where one does.
+pub fn read_end(lines: &mut Lines<'_>) -> Result<(), CertText>
     ensures end { Gives CertText.Memory (λ x. x) result (ended Trailing lines.old tt) }
 {
     match lines.next_line() {

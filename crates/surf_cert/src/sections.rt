@@ -186,13 +186,10 @@ fn read_walks(alloc: Global, lines: &mut Lines<'_>, count: u32) -> Result<Vec<Wa
     Ok(walks)
 }
 
-/// The cycles, as many as the counts say.
+/// The cycles behind their word, as many as the counts say. Refuses with the first fault of these
+/// lines, or with `Memory` where there is none.
 #[tactic(auto, unfolding(crate::specs::Grammar::cycles_of))]
-pub(crate) fn read_cycles(
-    alloc: Global,
-    lines: &mut Lines<'_>,
-    count: u32,
-) -> Result<Vec<Walk>, CertText>
+pub fn read_cycles(alloc: Global, lines: &mut Lines<'_>, count: u32) -> Result<Vec<Walk>, CertText>
     ensures cycles { Gives CertText.Memory (λ x. (x.items, lines.new)) result
         (cycles_of count lines.old) }
 {

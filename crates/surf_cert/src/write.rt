@@ -199,7 +199,8 @@ fn write_walks(page: &mut Page, cycles: &[Walk]) -> Result<(), PageFault>
     Ok(())
 }
 
-fn write_cycles(page: &mut Page, cycles: &[Walk]) -> Result<(), PageFault>
+/// Puts the lines of cycles on a page behind their word, and refuses as `write_loop_cert` does.
+pub fn write_cycles(page: &mut Page, cycles: &[Walk]) -> Result<(), PageFault>
     requires some { All (λ c. 1 ≤ length c) cycles.now }
     ensures puts { Puts page.old page.new (cycles_text cycles.now) result }
 {

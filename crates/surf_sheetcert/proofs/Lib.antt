@@ -1,0 +1,9 @@
+pub mod Rising
+pub mod EdgeLines
+pub mod SheetLines
+pub mod LineTexts
+pub mod Reread
+pub mod ReadLines
+pub mod ReadParts
+pub mod FirstLines
+pub mod WrittenRows
