@@ -14,6 +14,7 @@ the table in docs/formats.md. So a test may rely on those before it.
 """
 
 import collections
+import heapq
 import itertools
 import pathlib
 import re
@@ -190,6 +191,26 @@ class FaceRow(NamedTuple):
     side: Edge | None
 
 
+class Sheet(NamedTuple):
+    """For the numbers past the first up to the second: the places of a walk that are the part, and the margin."""
+
+    after: int
+    upto: int
+    walk: int
+    first: int
+    last: int
+    margin: int
+
+
+class SheetCertificate(NamedTuple):
+    """Walks, the numbers of the cocycles of each edge as bits, and sheets. Walks and cocycles are numbered from 1."""
+
+    counts: list[int]
+    cycles: list[list[int]]
+    cocycles: dict[Edge, int]
+    sheets: list[Sheet]
+
+
 class Certificate(NamedTuple):
     kind: str
     counts: list[int]
@@ -246,14 +267,46 @@ def read_parts(lines: Lines, kind: str) -> Certificate:
     return Certificate(kind, counts, trees, rows, left, cycles)
 
 
-def read_certificate(path: str) -> Certificate:
+def read_cocycles(lines: Lines, loops: int) -> dict[Edge, int]:
+    """The edges of cocycles, each greater than the one before, and their numbers, which rise from 1."""
+    found, last = {}, (-1, -1)
+    for _ in range(*numbers_behind(["cocycles"], lines.take(), 1)):
+        tokens = lines.take()
+        side, numbers = read_pair(tokens[:2]), [whole(token, loops) for token in tokens[2:]]
+        if side <= last or not numbers or numbers != sorted(set(numbers) - {0}):
+            raise ValueError
+        found[side], last = sum(1 << number for number in numbers), side
+    return found
+
+
+def read_sheet(tokens: list[str]) -> Sheet:
+    if len(tokens) != 6:
+        raise ValueError
+    return Sheet(*map(whole, tokens[:5]), whole(tokens[5], WHOLE))
+
+
+def read_sheet_parts(lines: Lines) -> SheetCertificate:
+    """What stands behind the first line. ValueError where the line that was taken last has another form."""
+    counts = numbers_behind(["counts"], lines.take(), 3)
+    loops = counts[2]
+    if loops == 0:
+        return SheetCertificate(counts, [], {}, [])
+    numbers_behind(["cycles"], lines.take(), 0)
+    cycles = [[whole(token) for token in lines.take()] for _ in range(loops)]
+    cocycles = read_cocycles(lines, loops)
+    sheets = [read_sheet(lines.take()) for _ in range(*numbers_behind(["sheets"], lines.take(), 1))]
+    return SheetCertificate(counts, cycles, cocycles, sheets)
+
+
+def read_certificate(path: str) -> Certificate | SheetCertificate:
     """The certificate in a file. Else Unreadable, with the line that `surf check` has on standard error."""
     lines = Lines(path, "certificate text")
     head = lines.take("header 0")
-    if head not in (["SURFCERT", "1", "loops"], ["SURFCERT", "1", "basis"]):
+    by_sheets = head == ["SURFCERT", "2", "basis"]
+    if not by_sheets and head not in (["SURFCERT", "1", "loops"], ["SURFCERT", "1", "basis"]):
         raise lines.fault("header")
     try:
-        cert = read_parts(lines, head[2])
+        cert = read_sheet_parts(lines) if by_sheets else read_parts(lines, head[2])
     except ValueError:
         raise lines.fault("form") from None
     lines.end()
@@ -263,11 +316,15 @@ def read_certificate(path: str) -> Certificate:
 # ---- what is wrong with a certificate
 
 
-def shape_faults(mesh: Mesh, cert: Certificate) -> Iterator[str]:
+def count_faults(mesh: Mesh, counts: list[int]) -> Iterator[str]:
     due = {"vertices": mesh.vertices, "faces": mesh.faces, "loops": mesh.loops()}
-    for (name, number), told in zip(due.items(), cert.counts):
+    for (name, number), told in zip(due.items(), counts):
         if told != number:
             yield f"no shape {name}"
+
+
+def shape_faults(mesh: Mesh, cert: Certificate) -> Iterator[str]:
+    yield from count_faults(mesh, cert.counts)
     if any(tree.base >= mesh.vertices for tree in cert.trees):
         yield "no shape base"
 
@@ -429,14 +486,153 @@ def certificate_faults(mesh: Mesh, lengths: dict[Edge, int], cert: Certificate) 
         yield from uncovered_faults(lengths, signs, cert)
 
 
-def check(mesh: Mesh, lengths: dict[Edge, int], cert: Certificate) -> str:
+# ---- sheets
+
+
+def length_of(lengths: dict[Edge, int], walk: list[int]) -> int:
+    return sum(lengths[step] for step in steps_of(walk))
+
+
+def odd_numbers(cocycles: dict[Edge, int], walk: list[int]) -> int:
+    """The cocycles, as bits, that a walk is odd on."""
+    total = 0
+    for step in steps_of(walk):
+        total ^= cocycles.get(step, 0)
+    return total
+
+
+def falling_faults(sizes: list[int]) -> Iterator[str]:
+    for number, (before, size) in enumerate(zip(sizes, sizes[1:]), 1):
+        if size < before:
+            yield f"no falling {number}"
+
+
+def cocycle_faults(mesh: Mesh, cocycles: dict[Edge, int]) -> Iterator[str]:
+    for pair in cocycles:
+        if pair not in mesh.edges:
+            yield "no pair %d %d" % pair
+    odd = [0] * mesh.faces
+    for side, numbers in cocycles.items():
+        for face in mesh.edges[side]:
+            odd[face] ^= numbers
+    for face in range(mesh.faces):
+        if odd[face]:
+            yield f"no cocycle {face}"
+
+
+def paired_faults(cert: SheetCertificate) -> Iterator[str]:
+    for number, cycle in enumerate(cert.cycles):
+        if odd_numbers(cert.cocycles, cycle) >> number + 1 != 1:
+            yield f"no unpaired {number}"
+
+
+def form_faults(mesh: Mesh, cert: SheetCertificate) -> Iterator[str]:
+    for number, sheet in enumerate(cert.sheets):
+        right = sheet.after < sheet.upto <= len(cert.cycles)
+        if sheet.walk == 0:
+            right = right and sheet.first == sheet.last < mesh.vertices
+        else:
+            right = right and sheet.walk <= len(cert.cycles) and sheet.first <= sheet.last
+            right = right and sheet.last < len(cert.cycles[sheet.walk - 1])
+        if not right:
+            yield f"no sheet {number}"
+
+
+Links = dict[int, list[tuple[int, int]]]
+
+
+def links_of(lengths: dict[Edge, int]) -> Links:
+    """The neighbours of each vertex in order, with the lengths to them."""
+    links = collections.defaultdict(list)
+    for (u, w), length in lengths.items():
+        links[u].append((w, length))
+        links[w].append((u, length))
+    return {vertex: sorted(near) for vertex, near in links.items()}
+
+
+def distances_from(links: Links, part: list[int], limit: int) -> dict[int, int]:
+    """The distance from the part of each vertex that is nearer than the limit, in order of distance."""
+    found, todo = {}, [(0, vertex) for vertex in set(part)]
+    while todo and todo[0][0] < limit:
+        far, vertex = heapq.heappop(todo)
+        if vertex not in found:
+            found[vertex] = far
+            for other, length in links[vertex]:
+                heapq.heappush(todo, (far + length, other))
+    return found
+
+
+def labels_on(links: Links, cocycles: dict[Edge, int], part: list[int], near: dict[int, int]) -> dict[int, int]:
+    """On the part the sum over its walk up to the first place of a vertex. Elsewhere the label of the least neighbour
+    on a shortest way, and the numbers of the edge to it."""
+    labels, total = {}, 0
+    for at, vertex in enumerate(part):
+        if at:
+            total ^= cocycles.get(edge(part[at - 1], vertex), 0)
+        labels.setdefault(vertex, total)
+    for vertex, far in near.items():
+        if vertex not in labels:
+            parent = next(u for u, length in links[vertex] if near.get(u, far) + length == far)
+            labels[vertex] = labels[parent] ^ cocycles.get(edge(parent, vertex), 0)
+    return labels
+
+
+def part_of(cert: SheetCertificate, sheet: Sheet) -> list[int]:
+    return cert.cycles[sheet.walk - 1][sheet.first : sheet.last + 1] if sheet.walk else [sheet.first]
+
+
+def short_edges(links: Links, sizes: list[int], cert: SheetCertificate, sheet: Sheet, near: dict[int, int]) -> list[Edge]:
+    """The edges over which some number of the range is crossed on too short a way. Where both ends are at the limit
+    the way is long enough, so only the edges at nearer vertices count."""
+    limit = (sizes[sheet.upto - 1] + 2 * sheet.margin + 1) // 2
+    labels = labels_on(links, cert.cocycles, part_of(cert, sheet), near)
+    short = set()
+    for u, far in near.items():
+        for w, length in links[u]:
+            crossed = labels[u] ^ labels.get(w, 0) ^ cert.cocycles.get(edge(u, w), 0)
+            way = far + length + near.get(w, limit) - 2 * sheet.margin
+            if any(crossed >> i & 1 and sizes[i - 1] > way for i in range(sheet.after + 1, sheet.upto + 1)):
+                short.add(edge(u, w))
+    return sorted(short)
+
+
+def sheet_faults(lengths: dict[Edge, int], sizes: list[int], cert: SheetCertificate) -> Iterator[str]:
+    """Each sheet holds, and each edge has for each of its numbers an end within the margin of a sheet with it."""
+    links, served = links_of(lengths), collections.defaultdict(int)
+    for number, sheet in enumerate(cert.sheets):
+        limit = (sizes[sheet.upto - 1] + 2 * sheet.margin + 1) // 2
+        near = distances_from(links, part_of(cert, sheet), limit)
+        for side in short_edges(links, sizes, cert, sheet, near):
+            yield "no short %d %d %d" % (number, *side)
+        for vertex, far in near.items():
+            if far <= sheet.margin:
+                served[vertex] |= (2 << sheet.upto) - (2 << sheet.after)
+    for (u, w), numbers in cert.cocycles.items():
+        if numbers & ~(served[u] | served[w]):
+            yield f"no unserved {u} {w}"
+
+
+def sheet_certificate_faults(mesh: Mesh, lengths: dict[Edge, int], cert: SheetCertificate) -> Iterator[str]:
+    """All that is wrong, in the order of the table in docs/formats.md. Only the first counts."""
+    yield from count_faults(mesh, cert.counts)
+    yield from closed_faults(mesh, cert.cycles)
+    sizes = [length_of(lengths, cycle) for cycle in cert.cycles]
+    yield from falling_faults(sizes)
+    yield from cocycle_faults(mesh, cert.cocycles)
+    yield from paired_faults(cert)
+    yield from form_faults(mesh, cert)
+    yield from sheet_faults(lengths, sizes, cert)
+
+
+def check(mesh: Mesh, lengths: dict[Edge, int], cert: Certificate | SheetCertificate) -> str:
     """`valid` with the total, or the first fault."""
-    for fault in certificate_faults(mesh, lengths, cert):
+    by_sheets = isinstance(cert, SheetCertificate)
+    for fault in (sheet_certificate_faults if by_sheets else certificate_faults)(mesh, lengths, cert):
         return fault
-    if cert.kind == "loops":
+    if not by_sheets and cert.kind == "loops":
         loops = loop_lengths(lengths, cert.trees[0])
         return f"valid loops {sum(loops[side] for side in cert.left)}"
-    return f"valid basis {sum(lengths[step] for cycle in cert.cycles for step in steps_of(cycle))}"
+    return f"valid basis {sum(length_of(lengths, cycle) for cycle in cert.cycles)}"
 
 
 # ---- evidence of a class
