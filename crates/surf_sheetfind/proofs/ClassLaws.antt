@@ -3,27 +3,27 @@ use Rattle.surf_surfaces.proofs.Common.{◌≡◌, ℕ, ◌<◌, ◌^◌, List, 
 use Rattle.surf_surfaces.specs.Homology.{IsBasis}
 use Rattle.surf_surfaces.proofs.classes.ClassLaws.{independent_by_classes}
 use Rattle.surf_surfaces.proofs.classes.SignatureLaws.{signatures_are_classes}
-use Rattle.surf_search.specs.Signing.{AreSigned}
+use Rattle.surf_finder.specs.Signing.{AreSigned, signs_of}
 use Rattle.surf_cotree.specs.Tables.{CotreeTables}
 use Rattle.surf_sheetfind.specs.Pairs.{class_by, classes_of, AreClasses}
 use Rattle.surf_sheetfind.proofs.EdgeRows.{class_is}
 
 -- a table of signatures, edge by edge
-pub signed_at : (mesh : Mesh) (t : CotreeTables) (width : ℕ) (s : AreSigned mesh t width) (e : ℕ) → e < edge_count mesh →
+pub signed_at : (mesh : Mesh) (t : CotreeTables) (width : ℕ) (s : AreSigned mesh (signs_of t) width) (e : ℕ) → e < edge_count mesh →
     slice_index t.signatures e ≡ edge_signature mesh s.split e
 signed_at mesh t width s e l =
     ap (λ xs. slice_index xs e) s.signatures
     ∙ get_or-map-range_with_len (edge_signature mesh s.split) 0 (edge_count mesh) e e 0 l (omega arith)
 
-pub signed_count : (mesh : Mesh) (t : CotreeTables) (width : ℕ) → AreSigned mesh t width →
+pub signed_count : (mesh : Mesh) (t : CotreeTables) (width : ℕ) → AreSigned mesh (signs_of t) width →
     length t.signatures ≡ edge_count mesh
 signed_count mesh t width s =
     ap length s.signatures ∙ length-map (range_with_len 0 (edge_count mesh)) (edge_signature mesh s.split)
     ∙ length-range_with_len 0 (edge_count mesh)
 
 -- signatures are as wide as each count of 2 − χ
-pub signed_for : (mesh : Mesh) (t : CotreeTables) (width count : ℕ) → AreSigned mesh t width → IsLoopCount mesh count →
-    AreSigned mesh t count
+pub signed_for : (mesh : Mesh) (t : CotreeTables) (width count : ℕ) → AreSigned mesh (signs_of t) width → IsLoopCount mesh count →
+    AreSigned mesh (signs_of t) count
 signed_for mesh t width count s full =
     let left = left_edges (cells_of mesh) s.split s.is_split in
     record { split = s.split; is_split = s.is_split; count = omega (arith, left, full); signatures = s.signatures }

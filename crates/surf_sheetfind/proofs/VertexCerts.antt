@@ -24,7 +24,7 @@ use Rattle.surf_paired.specs.Paired.{image}
 use Rattle.surf_paired.proofs.Rows.{image_small}
 use Rattle.surf_sheetfind.specs.Pairs.{class_by, classes_of}
 use Rattle.surf_sheetfind.specs.Listed.{edge_image, vertex_row, IsVertexCert}
-use Rattle.surf_search.specs.Signing.{AreSigned}
+use Rattle.surf_finder.specs.Signing.{AreSigned, signs_of}
 use Rattle.surf_cotree.specs.Tables.{CotreeTables}
 use Rattle.surf_sheetfind.proofs.ClassLaws.{signed_at}
 use Rattle.surf_sheetfind.proofs.Numbers.{numbers_fit}
@@ -47,7 +47,7 @@ pub record IsMadeFor (mesh : Mesh) (lengths signatures : List ℕ) (d : Split) (
 pub made_for : (mesh : Mesh) (lengths : List ℕ) (t : CotreeTables) (cert : SheetCert) → IsSurface mesh →
     ArePositive mesh lengths → mesh.vertices < 2 ^ 32 → face_count mesh < 2 ^ 30 → edge_count mesh < 2 ^ 30 →
     IsLeastBasis mesh lengths cert.cycles → AreByLength mesh lengths cert.cycles →
-    (s : AreSigned mesh t (length cert.cycles)) → IsMadeFor mesh lengths t.signatures s.split cert
+    (s : AreSigned mesh (signs_of t) (length cert.cycles)) → IsMadeFor mesh lengths t.signatures s.split cert
 made_for mesh lengths t cert surface positive vertices faces edges_few least by_length s =
     let full = least.is_basis.count in
     record {

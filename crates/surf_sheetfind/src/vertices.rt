@@ -7,7 +7,7 @@ ghost use Rattle.surf_sheets.specs.Sheets.{AreByLength};
 ghost use Rattle.surf_sheetcheck.specs.Valid.{IsValidSheets};
 ghost use Rattle.surf_sheetcheck.specs.Fits.{SheetCertFits};
 ghost use Rattle.surf_sheetcheck.specs.declared.fault.SheetFault.TheVariants.{Memory};
-ghost use Rattle.surf_search.specs.Signing.{AreSigned};
+ghost use Rattle.surf_finder.specs.Signing.{AreSigned, signs_of};
 ghost use Rattle.surf_sheetfind.specs.Pairs.{walk_at, classes_of, AreClasses};
 ghost use Rattle.surf_sheetfind.specs.Listed.{IsVertexCert};
 ghost use Rattle.surf_base.specs.declared.limits.TheConstants.{MAX_LOOPS};
@@ -29,7 +29,7 @@ use surf_signatures::VertexSets;
 fn signatures_of(alloc: Global, mesh: &HalfMesh, lengths: &Lengths) -> Result<CotreeDesk, NoMemory>
     requires lengths { length lengths.now ≡ edge_count mesh.now }
     requires few { loop_count mesh.now ≤ MAX_LOOPS }
-    ensures signed { IfOk result (λ desk. AreSigned mesh.now desk (length desk.left)) }
+    ensures signed { IfOk result (λ desk. AreSigned mesh.now (signs_of desk) (length desk.left)) }
 {
     mesh.law_of_surface();
     lengths.law_of_lengths();
@@ -80,7 +80,7 @@ fn judge(
     requires few { loop_count mesh.now ≤ MAX_LOOPS }
     requires least { IsLeastBasis mesh.now lengths.now cert.now.cycles }
     requires by_length { AreByLength mesh.now lengths.now cert.now.cycles }
-    requires signed { AreSigned mesh.now signatures.now (length cert.now.cycles) }
+    requires signed { AreSigned mesh.now (signs_of signatures.now) (length cert.now.cycles) }
     requires made { IsVertexCert mesh.now signatures.now.signatures cert.now }
     ensures valid { IfOk result (λ _. IsValidSheets mesh.now lengths.now cert.now) }
     ensures fits { SheetCertFits cert.now }

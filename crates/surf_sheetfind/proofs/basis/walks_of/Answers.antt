@@ -1,6 +1,6 @@
 use Rattle.surf_basis.proofs.Common.{as_loop, ◌∙◌, sym, rules, map-map, items_from_collect, YieldsList-from_map, YieldsList-from_vec}
 use Rattle.surf_basis.specs.declared.cycle.Cycle.{Cycle}
-use Rattle.surf_search.proofs.Common.{Loop}
+use Rattle.surf_surfaces.specs.Choice.{Loop}
 use Rattle.surf_sheetfind.proofs.basis.walks_of.Goals as goal
 
 pub returns : goal.returns
