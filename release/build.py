@@ -133,7 +133,8 @@ def make_other(other: Other, out: pathlib.Path, time: int) -> None:
                 return
             if done.returncode:
                 raise proof.Refused(f"{other.what}: {words[0]} ended with {done.returncode}: {said[-2000:]}")
-            print(f"{other.what}, by {words[0]}: {said.splitlines()[-1] if said else 'done'}")
+            told = done.stdout.strip().splitlines() or ["done"]
+            print(f"{other.what}, by {words[0]}: {told[-1]}")
         made = sorted(pathlib.Path(room).glob(other.pattern))
         if not made:
             raise proof.Refused(f"{other.what}: {other.make[0]} made no {other.pattern}")
