@@ -25,9 +25,9 @@ from tools import TOP
 from tools.users.usage import version_of
 
 HERE = TOP / "elsewhere"
-TESTED = ("Shortest homology bases (mod 2), loops and cuts of closed surface meshes, by proved code whose translation "
-          "is ")
-TESTED += "tested"
+UNTRIED = ("Shortest homology bases (mod 2), loops and cuts of closed surface meshes, by proved code whose translation "
+           "is untried")
+TESTED = UNTRIED.replace("untried", "tested")
 WHEELS = {
     "linux-aarch64": ("Operating System :: POSIX :: Linux", "for Linux on aarch64. Its translation was tested by "
                       "emulation, and is not proved."),
@@ -54,11 +54,16 @@ def zip_of(files: dict[str, pathlib.Path], to: pathlib.Path) -> None:
             archive.writestr(entry, path.read_bytes())
 
 
+def kind_of(name: str) -> packaging.Kind:
+    """What the wheel of a target says of itself. Nothing here runs macOS, so its wheels are untried."""
+    (system, told), summary = WHEELS[name], UNTRIED if native.TARGETS[name].system == "macos" else TESTED
+    return packaging.Kind(summary, (system,), f"It comes with the program as a shared library, {told}")
+
+
 def make_wheel(name: str, version: str, to: pathlib.Path) -> str:
     """The wheel of a target, and for Windows the zip of the program. Gives their names."""
-    target, (system, told) = native.TARGETS[name], WHEELS[name]
+    target, kind = native.TARGETS[name], kind_of(name)
     python, library = packaging.interpreter(), native.made([name])[name]
-    kind = packaging.Kind(TESTED, (system,), f"It comes with the program as a shared library, {told}")
     made = [packaging.made(python, {library.name: library}, version, target.platform, kind, to).name]
     if target.system == "windows":
         folder = f"surf-{version}-x86_64-windows"

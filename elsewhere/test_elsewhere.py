@@ -76,21 +76,20 @@ void Z_surfZ_surf_give(Z_surf_instance_t* instance, u64 a) {
 class Words(unittest.TestCase):
     """What wheels and the source distribution say of themselves."""
 
-    def said(self, system, told):
-        kind = make_parts.packaging.Kind(make_parts.TESTED, system,
-                                         f"It comes with the program as a shared library, {told}")
+    def said(self, name):
         with tempfile.TemporaryDirectory() as room:
-            make_parts.packaging.describe(room, kind)
+            make_parts.packaging.describe(room, make_parts.kind_of(name))
             return [pathlib.Path(room, name).read_text() for name in ("README.md", "pyproject.toml")]
 
-    def test_no_translation_is_called_proved(self):
-        for name, (system, told) in make_parts.WHEELS.items():
-            readme, settings = self.said((system,), told)
-            self.assertNotIn("Proved", readme)
-            self.assertNotIn("Proved", settings)
+    def test_no_translation_is_called_proved_and_none_for_macos_tested(self):
+        for name, (system, _) in make_parts.WHEELS.items():
+            readme, settings = self.said(name)
+            self.assertNotIn("Proved", readme + settings)
             self.assertIn("is not proved", readme)
             self.assertIn(f'classifiers = ["{system}", ', settings)
-            self.assertEqual("untried" in readme, name.startswith("macos"))
+            for text in (readme, settings):
+                self.assertEqual("untried" in text, name.startswith("macos"))
+                self.assertEqual("translation is tested" in text, not name.startswith("macos"))
 
     def test_each_target_has_words_and_the_name_that_the_package_looks_for(self):
         self.assertEqual(set(make_parts.WHEELS), set(native.TARGETS))
