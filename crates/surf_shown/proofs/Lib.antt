@@ -1,3 +1,4 @@
 pub mod PastLoops
 pub mod ServedLaws
 pub mod Judged
+pub mod RankLaws

@@ -9,7 +9,8 @@
 //! never make a wrong basis.
 //!
 //! The loops that are claimed stand in the order of length and base, and have numbers. A class is a
-//! sum of the first so many of them, and needs none of the others. A search shows a number where
+//! sum of the first so many of them, and needs none of the others: how many, their ranks tell
+//! ([`ranks_of`]). A search shows a number where
 //! each of its loops that may need the claimed loop with it is longer than that one, by more than
 //! the way across the margin and back, or comes no sooner if there is no margin. Then no closed walk
 //! over a vertex within the margin that needs this loop comes sooner. The search may leave out
@@ -26,8 +27,10 @@
 mod judging;
 mod labels;
 mod past;
+mod ranks;
 mod record;
 mod serving;
 
 pub use judging::are_shown;
+pub use ranks::ranks_of;
 pub use record::{Claim, Labels, Round, SearchRecord};
