@@ -37,6 +37,13 @@ License: none-chosen
 # The program stays byte by byte the one that the gate ran, so its symbols aren't stripped.
 OVERRIDES = f"{NAME}: unstripped-binary-or-object [usr/bin/{NAME}]\n"
 
+# Python keeps what it compiled of the tools beside them, in files that the package doesn't list.
+CLEANING = f"""\
+#!/bin/sh
+set -e
+find /usr/share/{NAME}/tools -type d -name __pycache__ -prune -exec rm -r {{}} +
+"""
+
 
 class Parts(NamedTuple):
     """What a release is made of: its version, its date in seconds, the folder of built files, the pages by name."""
@@ -167,7 +174,8 @@ In other places the program has the name surf, which in Debian is that of a web 
 that name.""",
                      Depends=f"libc6 (>= {needed_glibc(parts.built / 'surf')})", Recommends="sse4.2-support",
                      Suggests="python3")
-    trees.debian_package(tree, fields, {}, out / f"{NAME}_{parts.version}_amd64.deb", parts.time)
+    to = out / f"{NAME}_{parts.version}_amd64.deb"
+    trees.debian_package(tree, fields, {"prerm": CLEANING}, to, parts.time)
 
 
 def library_package(parts: Parts, proved: str, out: pathlib.Path) -> None:

@@ -379,10 +379,14 @@ class Archives(unittest.TestCase):
         with tempfile.TemporaryDirectory() as room:
             made = [pathlib.Path(room, name) for name in ("a.deb", "b.deb")]
             for path in made:
-                trees.debian_package(self.tree(), fields, {"triggers": "x\n"}, path, 1_000_000_000)
+                scripts = {"triggers": "x\n", "prerm": packages.CLEANING}
+                trees.debian_package(self.tree(), fields, scripts, path, 1_000_000_000)
             self.assertEqual(made[0].read_bytes(), made[1].read_bytes())
             said = subprocess.run(["dpkg-deb", "-f", made[0]], capture_output=True, text=True, check=True).stdout
             listed = subprocess.run(["dpkg-deb", "-c", made[0]], capture_output=True, text=True, check=True).stdout
+            subprocess.run(["dpkg-deb", "-e", made[0], f"{room}/control"], check=True)
+            modes = [path.stat().st_mode & 0o777 for path in map(pathlib.Path(room, "control").joinpath, scripts)]
+        self.assertEqual(modes, [0o644, 0o755])
         self.assertIn("Package: it\nSource: surfbasis\nVersion: 1.2.3\nArchitecture: amd64\n", said)
         self.assertIn("Multi-Arch: same\n", said)
         self.assertTrue(said.endswith("Description: short\n long text\n"))

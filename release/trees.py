@@ -91,7 +91,7 @@ def debian_package(tree: Tree, control: dict[str, str], scripts: dict[str, str],
     whole.add("DEBIAN/md5sums", "".join(sums))
     whole.add("DEBIAN/control", "".join(f"{name}: {text}\n" for name, text in control.items()))
     for name, text in scripts.items():
-        whole.add(f"DEBIAN/{name}", text)
+        whole.add(f"DEBIAN/{name}", text, 0o755 if text.startswith("#!") else 0o644)
     with tempfile.TemporaryDirectory() as room:
         root = pathlib.Path(room, "package")
         write_tree(whole, root, time)
