@@ -6,3 +6,5 @@ pub mod Surfaces
 pub mod Discs
 pub mod Rows
 pub mod Certificates
+pub mod SheetRule
+pub mod Sheets

@@ -17,6 +17,12 @@ use Rattle.surf_certcheck.specs.BasisFaults.{IsBasisFault}
 use Rattle.surf_certcheck.specs.LoopFaults.{IsLoopFault}
 use Rattle.surf_treecheck.specs.declared.fault.CertFault.{CertFault}
 use Rattle.surf_treecheck.specs.declared.fault.CertFault.TheVariants as cert
+use Rattle.surf_surfaces.specs.Walk.{ArePositive}
+use Rattle.surf_sheets.specs.Rows.{SheetCert}
+use Rattle.surf_sheetcheck.specs.Valid.{IsValidSheets}
+use Rattle.surf_sheetcheck.specs.Faults.{IsSheetFault}
+use Rattle.surf_sheetcheck.specs.declared.fault.SheetFault.{SheetFault}
+use Rattle.surf_sheetcheck.specs.declared.fault.SheetFault.TheVariants as sheet
 
 -- a fault of a mesh that is no surface, other than want of memory
 abbrev pub HasSurfaceFault : Mesh → Type 0
@@ -49,3 +55,12 @@ LoopCertsAreTold = (mesh : Mesh) (lengths : List ℕ) (cert : LoopCert) →
 abbrev pub BasisCertsAreTold : Type 0
 BasisCertsAreTold = (mesh : Mesh) (lengths : List ℕ) (cert : BasisCert) →
     IsValidBasis mesh lengths cert ⊎ HasFault (IsBasisFault mesh lengths cert)
+
+-- a fault of a certificate by sheets, other than want of memory
+abbrev pub HasSheetFault : (SheetFault → Type 0) → Type 0
+HasSheetFault IsFault = (fault : SheetFault) × (fault ≢ sheet.Memory) × IsFault fault
+
+-- A certificate by sheets is valid for a surface with positive lengths, or it has a first fault.
+abbrev pub SheetCertsAreTold : Type 0
+SheetCertsAreTold = (mesh : Mesh) (lengths : List ℕ) (cert : SheetCert) → IsSurface mesh → ArePositive mesh lengths →
+    IsValidSheets mesh lengths cert ⊎ HasSheetFault (IsSheetFault mesh lengths cert)

@@ -11,7 +11,7 @@
 #![tactic(auto)]
 
 ghost use Rattle.surf_decided.specs.Told.{BasisCertsAreTold, DiscsAreTold};
-ghost use Rattle.surf_decided.specs.Told.{LoopCertsAreTold, SurfacesAreTold};
+ghost use Rattle.surf_decided.specs.Told.{LoopCertsAreTold, SheetCertsAreTold, SurfacesAreTold};
 
 /// A mesh is a surface, or it has a first fault; and it is a disc, or it has a first fault.
 pub fn law_of_meshes()
@@ -19,8 +19,10 @@ pub fn law_of_meshes()
     ensures discs { DiscsAreTold }
 {}
 
-/// A certificate of loops, or of a basis, is valid, or it has a first fault.
+/// A certificate of loops, or of a basis, is valid, or it has a first fault. One by sheets is valid
+/// for a surface with positive lengths, or it has a first fault.
 pub fn law_of_certificates()
     ensures loops { LoopCertsAreTold }
     ensures bases { BasisCertsAreTold }
+    ensures sheets { SheetCertsAreTold }
 {}

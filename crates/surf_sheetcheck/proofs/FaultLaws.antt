@@ -22,7 +22,7 @@ use Rattle.surf_sheetcheck.proofs.ValidLaws.{least, in_order}
 
 module _ (mesh : Mesh) (lengths : List ℕ) (cert : SheetCert) (surface : IsSurface mesh) (positive : ArePositive mesh lengths) where
   -- an edge is long by any distances and labels of the rule, or by none
-  long_by_other : (row : SheetRow) (d e p q : ℕ → ℕ) → FollowsRule mesh lengths cert row d p →
+  pub long_by_other : (row : SheetRow) (d e p q : ℕ → ℕ) → FollowsRule mesh lengths cert row d p →
       FollowsRule mesh lengths cert row e q → (f : ℕ) → f < edge_count mesh → IsLongAt mesh lengths cert row d p f →
       IsLongAt mesh lengths cert row e q f
   long_by_other row d e p q by_d by_e f l long i from to crossed =

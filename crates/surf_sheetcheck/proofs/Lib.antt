@@ -12,6 +12,7 @@ pub mod DistanceLaws
 pub mod OneRule
 pub mod ValidLaws
 pub mod FaultLaws
+pub mod OneFault
 pub mod Tasks
 pub mod Choosing
 pub mod LookLaws
